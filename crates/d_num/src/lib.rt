@@ -1,0 +1,22 @@
+//! Exact numbers of a bill: money, prices, energy and power, each a whole number of a small unit within a stated range, and the cost
+//! of a way that may not be there.
+//!
+//! Nothing here is rounded and nothing takes memory. A sum, a difference or a product is the plain one; that it is in range is
+//! the caller's to show.
+#![tactic(auto)]
+
+mod amount;
+mod pot;
+
+pub use amount::{Money, Rate, Watt, Wh};
+pub use pot::Pot;
+
+/// Memory was wanted and there was none. It is answered by calls that take memory and is never merged with another answer.
+#[derive(Clone, Copy, Debug, PartialEq, Eq)]
+pub struct NoMemory;
+
+impl From<std::alloc::AllocError> for NoMemory {
+    fn from(_error: std::alloc::AllocError) -> NoMemory {
+        NoMemory
+    }
+}
