@@ -1,0 +1,6 @@
+pub mod Cause
+pub mod Front
+pub mod Scene
+pub mod Calls
+pub mod Stages
+pub mod WholeFile
