@@ -1,0 +1,10 @@
+pub mod Table
+pub mod Number
+pub mod Words
+pub mod Asking
+pub mod Record
+pub mod Text
+pub mod ReadingsFile
+pub mod BatteryFile
+pub mod Answer
+pub mod Runs

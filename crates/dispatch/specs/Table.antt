@@ -1,0 +1,51 @@
+-- A file as a table of cells, as the csv reader's contract has it.
+use Rattle.std.specs.Prelude.{◌≡◌, ℕ, Bool, ◌||◌, ◌&&◌, ◌==◌, List, [], ◌∷◌, length, map, position, bytes_eq, Option, All, slice_index_or, if◌then◌else◌}
+use Rattle.std.specs.Str.{str_to_ascii_lowercase}
+use Rattle.csv.specs.Reading.{records, default_config, strip_bom}
+
+-- the records of a file: one byte order mark of UTF-8 at its front is taken off, and the csv reader, with its default settings,
+-- no header and rows of any length, reads what is left (by its contract it takes one such mark off too)
+abbrev pub records_of : List ℕ → List (List (List ℕ))
+records_of bytes = records default_config (strip_bom (strip_bom bytes))
+
+-- a space or a tab
+abbrev pub is_blank : ℕ → Bool
+is_blank byte = (byte == 32) || (byte == 9)
+
+-- a text without the bytes of a kind at its front
+unfoldable pub without_front : (ℕ → Bool) → List ℕ → List ℕ
+without_front test [] = []
+without_front test (byte ∷ rest) = if test byte then without_front test rest else byte ∷ rest
+
+-- a text without the bytes of a kind at its end
+unfoldable pub without_back : (ℕ → Bool) → List ℕ → List ℕ
+without_back test [] = []
+without_back test (byte ∷ rest) = if test byte && (length (without_back test rest) == 0) then [] else byte ∷ without_back test rest
+
+-- a cell: a field without the spaces and tabs at its ends
+unfoldable pub trimmed : List ℕ → List ℕ
+trimmed field = without_back is_blank (without_front is_blank field)
+
+-- a file's rows of cells; the first row is the header
+abbrev pub rows_of : List ℕ → List (List (List ℕ))
+rows_of bytes = map (map trimmed) (records_of bytes)
+
+-- the cells of a row; no cell where there is no such row
+abbrev pub row_at : List (List (List ℕ)) → ℕ → List (List ℕ)
+row_at rows row = slice_index_or rows row []
+
+-- a cell of a row; no bytes where there is no such cell
+abbrev pub cell_in : List (List ℕ) → ℕ → List ℕ
+cell_in row column = slice_index_or row column []
+
+-- each row has as many cells as the first
+abbrev pub IsRectangular : List (List (List ℕ)) → Type 0
+IsRectangular rows = All (λ row. length row ≡ length (row_at rows 0)) rows
+
+-- the first column of that name, ASCII case ignored; the name is in small letters
+abbrev pub column_of : List ℕ → List (List ℕ) → Option ℕ
+column_of name header = position (λ cell. bytes_eq name (str_to_ascii_lowercase cell)) header
+
+-- the header is exactly these names, ASCII case ignored; the names are in small letters
+abbrev pub IsHeader : List (List ℕ) → List (List ℕ) → Type 0
+IsHeader names header = map str_to_ascii_lowercase header ≡ names
