@@ -1,3 +1,4 @@
 pub mod Fronts
 pub mod StageLaws
 pub mod Loading
+pub mod Storing

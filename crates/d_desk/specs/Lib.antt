@@ -4,3 +4,8 @@ pub mod Scene
 pub mod Calls
 pub mod Stages
 pub mod WholeFile
+pub mod State
+pub mod Stored
+pub mod KeptState
+pub mod Planned
+pub mod InMemory

@@ -9,12 +9,22 @@
 
 mod desk;
 mod fault;
+mod kept;
 mod load;
+mod memory_desk;
 mod opened;
+mod plan;
 mod send;
+mod sure_desk;
 
 pub use desk::Desk;
 pub use fault::DeskFault;
 pub use load::{LoadFault, load_file};
-pub use opened::Direction;
+pub use memory_desk::MemoryDesk;
+pub use opened::{Direction, Opened};
+pub use plan::{DeskCall, PlannedFault};
 pub use send::{print_all, save_all};
+pub use sure_desk::SureDesk;
+
+#[cfg(test)]
+mod tests;

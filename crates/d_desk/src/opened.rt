@@ -6,3 +6,12 @@ pub enum Direction {
     /// For writing.
     Out,
 }
+
+/// One opening of a file, which a desk in memory lists.
+#[derive(Debug, Drop)]
+pub struct Opened {
+    /// For reading or for writing.
+    pub way: Direction,
+    /// The file's name, as it was asked for.
+    pub name: String,
+}
