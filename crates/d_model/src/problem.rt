@@ -1,12 +1,13 @@
 //! The problem that a plan is made for.
 
-ghost use Rattle.std.specs.Prelude.{◌≡◌, ◌*◌, ◌^◌};
-ghost use Rattle.d_num.specs.Amount.{IsRate, IsWithin};
-ghost use Rattle.d_model.specs.Flows.{import_of};
+ghost use Rattle.std.specs.Prelude.{◌≡◌, ◌↔◌, ◌*◌, ◌^◌, ◌≤ℤ◌, IsTrue};
+ghost use Rattle.d_num.specs.Amount.{IsRate, IsUpTo, IsWithin};
+ghost use Rattle.d_model.specs.Flows.{import_of, export_of};
 
 use crate::arc::{Arc, At};
 use crate::battery::Battery;
 use crate::meter::Meter;
+use crate::mode::Mode;
 use crate::month::Month;
 use crate::tally::Tally;
 use d_num::{Money, NoMemory, Rate, Watt, Wh};
@@ -22,7 +23,8 @@ pub struct Problem {
 }
 
 impl Problem {
-    ghost use Rattle.std.specs.Prelude.{◌≡◌, ◌<◌, ◌+ℤ◌, pos, length, IfOk, OnOk, OnErr, IfErr, IfNone, IfSome};
+    ghost use Rattle.std.specs.Prelude.{◌≡◌, ◌<◌, ◌+ℤ◌, pos, length, IfOk, OnOk, OnErr, IfErr, IfNone, IfSome, slice_get};
+    ghost use Rattle.d_model.specs.Storage.{IsMode};
     ghost use Rattle.d_model.specs.Inputs.{IsInRange};
     ghost use Rattle.d_model.specs.Flows.{net_at, arc_of, permitted_arc};
     ghost use Rattle.d_model.specs.Schedules.{change_of, KeepsRules, IsFeasible, IsFirstBreak};
@@ -83,7 +85,8 @@ impl Problem {
     /// The net reading of an interval.
     pub fn net(&self, t: u32) -> Wh
         requires { t < length (inputs_of self.now).net }
-        ensures { result ≡ net_at (inputs_of self.now) t }
+        ensures value { result ≡ net_at (inputs_of self.now) t }
+        ensures range { IsWithin (10 ^ 9) result }
     {
         self.meter.net.as_slice()[t as usize]
     }
@@ -101,8 +104,16 @@ impl Problem {
         requires mode { mode < length (inputs_of self.now).storage.modes }
         ensures { result ≡ arc_of (inputs_of self.now) t mode }
     {
-        let grid = self.battery.modes.as_slice()[mode as usize].grid;
-        self.permitted(self.net(t).value() + grid.value())
+        self.permitted(self.net(t).value() + self.mode(mode).grid.value())
+    }
+
+    /// The mode of that number.
+    fn mode(&self, number: u8) -> &Mode
+        requires { number < length (inputs_of self.now).storage.modes }
+        ensures there { slice_get (inputs_of self.now).storage.modes number ≡ Some result.now }
+        ensures range { IsMode result.now }
+    {
+        &self.battery.modes.as_slice()[number as usize]
     }
 
     /// What a flow takes, sends and draws, or None where the battery's limits don't allow it.
@@ -111,8 +122,8 @@ impl Problem {
         ensures { result ≡ permitted_arc (inputs_of self.now) flow }
     {
         let import = taken(flow);
-        let export = taken(-flow);
-        if import > self.battery.max_import || export > self.battery.max_export {
+        let export = sent(flow);
+        if !is_within(import, self.battery.max_import) || !is_within(export, self.battery.max_export) {
             return None;
         }
         Some(Arc {
@@ -161,7 +172,7 @@ impl Problem {
         if number as usize >= self.battery.modes.len() {
             return None;
         }
-        let mode = &self.battery.modes.as_slice()[number as usize];
+        let mode = self.mode(number);
         if level < mode.low || level > mode.high {
             return None;
         }
@@ -203,7 +214,23 @@ struct Step {
 /// The part of a flow that is taken: the larger of 0 and the flow.
 fn taken(flow: i64) -> Wh
     requires { IsWithin (2 * 10 ^ 9) flow }
-    ensures { result ≡ import_of flow }
+    ensures value { result ≡ import_of flow }
+    ensures range { IsUpTo (2 * 10 ^ 9) result }
 {
     Wh::new(flow.max(0)).unwrap()
+}
+
+/// The part of a flow that is sent out: the larger of 0 and the flow turned round.
+fn sent(flow: i64) -> Wh
+    requires { IsWithin (2 * 10 ^ 9) flow }
+    ensures { result ≡ export_of flow }
+{
+    Wh::new((-flow).max(0)).unwrap()
+}
+
+/// Whether an amount is at most a limit.
+fn is_within(amount: Wh, limit: Wh) -> bool
+    ensures { IsTrue result ↔ (amount ≤ℤ limit) }
+{
+    amount <= limit
 }
