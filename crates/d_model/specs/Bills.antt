@@ -1,0 +1,29 @@
+-- The bill of a schedule, and what is best.
+use Rattle.std.specs.Prelude.{◌≡◌, ◌⊎◌, ⊤, ℕ, ℤ, pos, ◌<◌, ◌≤ℤ◌, ◌*ℤ◌, List, [], ◌∷◌, slice_index_or}
+use Rattle.d_model.specs.Inputs.{Inputs}
+use Rattle.d_model.specs.Schedules.{IsFeasible}
+use Rattle.d_model.specs.Totals.{Tallied, tally_of}
+
+-- what is charged for a tally: the price times the import of the month (one untiered price of energy, as in URDB's field `rate`)
+abbrev pub sum_of : Inputs → Tallied → ℤ
+sum_of i tally = i.price *ℤ slice_index_or tally.totals 0 (pos 0)
+
+-- the bill of a schedule in 10^-21 USD
+abbrev pub bill_of : Inputs → List ℕ → ℤ
+bill_of i s = sum_of i (tally_of i s)
+
+-- a feasible schedule that no feasible schedule undercuts
+pub record IsLeast (i : Inputs) (s : List ℕ) : Type 0 where
+  pub feasible : IsFeasible i s
+  pub least : (z : List ℕ) → IsFeasible i z → bill_of i s ≤ℤ bill_of i z
+
+-- the order of lists of mode numbers: at the first place where they differ, the smaller number comes first
+abbrev pub IsNotAfter : List ℕ → List ℕ → Type 0
+IsNotAfter [] ys = ⊤
+IsNotAfter (x ∷ xs) [] = ⊥
+IsNotAfter (x ∷ xs) (y ∷ ys) = (x < y) ⊎ ((x ≡ y) × IsNotAfter xs ys)
+
+-- the first of the least schedules
+pub record IsFirstLeast (i : Inputs) (s : List ℕ) : Type 0 where
+  pub least : IsLeast i s
+  pub first : (z : List ℕ) → IsFeasible i z → bill_of i z ≡ bill_of i s → IsNotAfter s z

@@ -1,0 +1,10 @@
+pub mod Calendar
+pub mod Storage
+pub mod Readings
+pub mod Inputs
+pub mod Sums
+pub mod Flows
+pub mod Schedules
+pub mod Totals
+pub mod Bills
+pub mod Shown

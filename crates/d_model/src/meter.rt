@@ -1,0 +1,36 @@
+//! A month of net meter readings.
+
+ghost use Rattle.d_model.specs.Readings.{IsReadings};
+
+use crate::month::Month;
+use crate::net::NetList;
+use d_num::NoMemory;
+use std::alloc::Global;
+
+/// The net readings of a whole month, one every so many minutes.
+#[derive(Drop)]
+pub struct Meter {
+    pub month: Month,
+    pub minutes: u8,
+    pub net: NetList,
+    pub ghost complete: { IsReadings month.year month.number minutes net },
+}
+
+impl Meter {
+    ghost use Rattle.std.specs.Prelude.{◌≡◌, IfOk};
+
+    /// The same readings once more, in memory of their own.
+    pub fn copied(&self, alloc: Global) -> Result<Meter, NoMemory>
+        ensures year { IfOk result (λ m. m.month.year ≡ self.now.month.year) }
+        ensures number { IfOk result (λ m. m.month.number ≡ self.now.month.number) }
+        ensures minutes { IfOk result (λ m. m.minutes ≡ self.now.minutes) }
+        ensures net { IfOk result (λ m. m.net ≡ self.now.net) }
+    {
+        let net = self.net.copied(alloc)?;
+        Ok(Meter {
+            month: self.month,
+            minutes: self.minutes,
+            net,
+        })
+    }
+}

@@ -1,0 +1,236 @@
+//! The problem that a plan is made for.
+
+ghost use Rattle.std.specs.Prelude.{◌≡◌, ◌↔◌, ◌*◌, ◌^◌, ◌≤ℤ◌, IsTrue};
+ghost use Rattle.d_num.specs.Amount.{IsRate, IsUpTo, IsWithin};
+ghost use Rattle.d_model.specs.Flows.{import_of, export_of};
+
+use crate::arc::{Arc, At};
+use crate::battery::Battery;
+use crate::meter::Meter;
+use crate::mode::Mode;
+use crate::month::Month;
+use crate::tally::Tally;
+use d_num::{Money, NoMemory, Rate, Watt, Wh};
+use std::alloc::Global;
+
+/// A month's readings, its price of energy and its battery. A contract sees it as `inputs_of` shows it.
+#[derive(Drop)]
+pub struct Problem {
+    price: Rate,
+    meter: Meter,
+    battery: Battery,
+    ghost fair: { IsRate price },
+}
+
+impl Problem {
+    ghost use Rattle.std.specs.Prelude.{◌≡◌, ◌<◌, ◌+ℤ◌, pos, length, IfOk, OnOk, OnErr, IfErr, IfNone, IfSome, slice_get};
+    ghost use Rattle.d_model.specs.Storage.{IsMode};
+    ghost use Rattle.d_model.specs.Inputs.{IsInRange};
+    ghost use Rattle.d_model.specs.Flows.{net_at, arc_of, permitted_arc};
+    ghost use Rattle.d_model.specs.Schedules.{change_of, KeepsRules, IsFeasible, IsFirstBreak};
+    ghost use Rattle.d_model.specs.Totals.{import_with, tally_of, IsTallyOfSome};
+    ghost use Rattle.d_model.specs.Bills.{sum_of};
+    ghost use Rattle.d_model.specs.Shown.{storage_of, plain_of, inputs_of};
+
+    /// The problem of these readings and this battery where all energy has this one price, with no sell rate, fixed charge or minimum.
+    pub fn plain(
+        alloc: Global,
+        price: Rate,
+        meter: &Meter,
+        battery: &Battery,
+    ) -> Result<Problem, NoMemory>
+        ensures value { IfOk result (λ p. inputs_of p ≡ plain_of price meter.now battery.now) }
+        ensures range { IfOk result (λ p. IsInRange (inputs_of p)) }
+    {
+        let _units = price.units();
+        let meter = meter.copied(alloc)?;
+        let battery = battery.copied(alloc)?;
+        Ok(Problem {
+            price,
+            meter,
+            battery,
+        })
+    }
+
+    /// The number of intervals.
+    pub fn intervals(&self) -> u32
+        ensures value { result ≡ length (inputs_of self.now).net }
+        ensures range { IsInRange (inputs_of self.now) }
+    {
+        self.meter.net.len() as u32
+    }
+
+    /// The length of an interval in minutes.
+    pub fn minutes(&self) -> u8
+        ensures { result ≡ (inputs_of self.now).minutes }
+    {
+        self.meter.minutes
+    }
+
+    /// The month.
+    pub fn month(&self) -> Month
+        ensures year { result.year ≡ (inputs_of self.now).year }
+        ensures number { result.number ≡ (inputs_of self.now).number }
+    {
+        self.meter.month
+    }
+
+    /// The price of energy.
+    pub fn price(&self) -> Rate
+        ensures { result ≡ (inputs_of self.now).price }
+    {
+        self.price
+    }
+
+    /// The net reading of an interval.
+    pub fn net(&self, t: u32) -> Wh
+        requires { t < length (inputs_of self.now).net }
+        ensures value { result ≡ net_at (inputs_of self.now) t }
+        ensures range { IsWithin (10 ^ 9) result }
+    {
+        self.meter.net.as_slice()[t as usize]
+    }
+
+    /// The battery.
+    pub fn battery(&self) -> &Battery
+        ensures { storage_of result.now ≡ (inputs_of self.now).storage }
+    {
+        &self.battery
+    }
+
+    /// What an interval takes, sends and draws in a mode, or None exactly where the battery's limits don't allow it.
+    pub fn arc(&self, t: u32, mode: u8) -> Option<Arc>
+        requires interval { t < length (inputs_of self.now).net }
+        requires mode { mode < length (inputs_of self.now).storage.modes }
+        ensures { result ≡ arc_of (inputs_of self.now) t mode }
+    {
+        self.permitted(self.net(t).value() + self.mode(mode).grid.value())
+    }
+
+    /// The mode of that number.
+    fn mode(&self, number: u8) -> &Mode
+        requires { number < length (inputs_of self.now).storage.modes }
+        ensures there { slice_get (inputs_of self.now).storage.modes number ≡ Some result.now }
+        ensures range { IsMode result.now }
+    {
+        &self.battery.modes.as_slice()[number as usize]
+    }
+
+    /// What a flow takes, sends and draws, or None where the battery's limits don't allow it.
+    fn permitted(&self, flow: i64) -> Option<Arc>
+        requires { IsWithin (2 * 10 ^ 9) flow }
+        ensures { result ≡ permitted_arc (inputs_of self.now) flow }
+    {
+        let import = taken(flow);
+        let export = sent(flow);
+        if !is_within(import, self.battery.max_import) || !is_within(export, self.battery.max_export) {
+            return None;
+        }
+        Some(Arc {
+            import,
+            export,
+            power: Watt::of(import, self.meter.minutes),
+        })
+    }
+
+    /// Goes through a schedule from the first interval to the last. A feasible schedule's tally is written. Any other is refused with
+    /// the first interval that breaks a rule, or the number of intervals where only the end level is missed, and the tally stays.
+    pub fn walk(&self, schedule: &[u8], tally: &mut Tally) -> Result<(), At>
+        requires { length schedule.now ≡ length (inputs_of self.now).net }
+        ensures feasible { OnOk result (IsFeasible (inputs_of self.now) schedule.now) }
+        ensures tally { OnOk result (tally.new ≡ tally_of (inputs_of self.now) schedule.now) }
+        ensures counted { OnOk result (IsTallyOfSome (inputs_of self.now) tally.new) }
+        ensures refused { IfErr result (λ at. IsFirstBreak (inputs_of self.now) schedule.now at.interval) }
+        ensures same { OnErr result (tally.new ≡ tally.old) }
+    {
+        let mut level = self.battery.start;
+        let mut total = 0;
+        for t in 0..self.intervals() {
+            let Some(step) = self.step(t, level, schedule[t as usize]) else {
+                return Err(At { interval: t });
+            };
+            level = step.level;
+            total += step.import.value();
+        }
+        if level < self.battery.end {
+            return Err(At {
+                interval: self.intervals(),
+            });
+        }
+        *tally = Tally::of_import(Wh::new(total).unwrap());
+        Ok(())
+    }
+
+    /// One interval of a schedule: None exactly where a rule is broken.
+    fn step(&self, t: u32, level: u8, number: u8) -> Option<Step>
+        requires { t < length (inputs_of self.now).net }
+        ensures refused { IfNone result (¬ KeepsRules (inputs_of self.now) t number (pos level)) }
+        ensures kept { IfSome result (λ _. KeepsRules (inputs_of self.now) t number (pos level)) }
+        ensures level { IfSome result (λ step. pos step.level ≡ pos level +ℤ change_of (inputs_of self.now) number) }
+        ensures import { IfSome result (λ step. step.import ≡ import_with (inputs_of self.now) t number) }
+    {
+        if number as usize >= self.battery.modes.len() {
+            return None;
+        }
+        let mode = self.mode(number);
+        if level < mode.low || level > mode.high {
+            return None;
+        }
+        let after = level as i16 + mode.change;
+        if after < self.battery.floor as i16 || after > self.battery.capacity as i16 {
+            return None;
+        }
+        let arc = self.arc(t, number)?;
+        Some(Step {
+            level: after as u8,
+            import: arc.import,
+        })
+    }
+
+    /// What is charged for a schedule of this tally.
+    pub fn sum(&self, tally: &Tally) -> Money
+        requires { IsTallyOfSome (inputs_of self.now) tally.now }
+        ensures { result ≡ sum_of (inputs_of self.now) tally.now }
+    {
+        self.price.times(tally.totals[0].value())
+    }
+
+    /// The bill of a schedule of this tally: the sum, since there is no minimum.
+    pub fn bill(&self, tally: &Tally) -> Money
+        requires { IsTallyOfSome (inputs_of self.now) tally.now }
+        ensures { result ≡ sum_of (inputs_of self.now) tally.now }
+    {
+        self.sum(tally)
+    }
+}
+
+/// What a kept interval leaves and takes.
+#[derive(Clone, Copy)]
+struct Step {
+    level: u8,
+    import: Wh,
+}
+
+/// The part of a flow that is taken: the larger of 0 and the flow.
+fn taken(flow: i64) -> Wh
+    requires { IsWithin (2 * 10 ^ 9) flow }
+    ensures value { result ≡ import_of flow }
+    ensures range { IsUpTo (2 * 10 ^ 9) result }
+{
+    Wh::new(flow.max(0)).unwrap()
+}
+
+/// The part of a flow that is sent out: the larger of 0 and the flow turned round.
+fn sent(flow: i64) -> Wh
+    requires { IsWithin (2 * 10 ^ 9) flow }
+    ensures { result ≡ export_of flow }
+{
+    Wh::new((-flow).max(0)).unwrap()
+}
+
+/// Whether an amount is at most a limit.
+fn is_within(amount: Wh, limit: Wh) -> bool
+    ensures { IsTrue result ↔ (amount ≤ℤ limit) }
+{
+    amount <= limit
+}

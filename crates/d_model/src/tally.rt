@@ -1,0 +1,50 @@
+//! What is counted of a schedule before it is priced.
+
+ghost use Rattle.std.specs.Prelude.{◌≡◌, pos, ◌∷◌, replicate};
+
+use d_num::{Money, Watt, Wh};
+use std::marker::Model;
+
+/// The import of each energy period of the month, the worth of its export, and the greatest power of each group of intervals. A
+/// contract sees it as these lists.
+#[derive(Drop)]
+pub struct Tally {
+    pub totals: [Wh; 36],
+    pub credit: Money,
+    pub peaks: [Watt; 37],
+}
+
+impl Model for Tally {
+    ghost use Rattle.std.specs.Prelude.{◌≡◌, length};
+    ghost use Rattle.d_model.specs.Totals.{Tallied};
+
+    ghost Value = { Tallied };
+
+    ghost view = { λ a. record { totals = a.totals; credit = a.credit; peaks = a.peaks } };
+
+    ghost invariant = { λ a. (length a.totals ≡ 36) × (length a.peaks ≡ 37) };
+}
+
+impl Tally {
+    /// All zeros.
+    pub fn new() -> Tally
+        ensures totals { result.totals ≡ replicate 36 (pos 0) }
+        ensures credit { result.credit ≡ pos 0 }
+        ensures peaks { result.peaks ≡ replicate 37 (pos 0) }
+    {
+        Tally::of_import(Wh::new(0).unwrap())
+    }
+
+    /// The tally of a month with one period, no credit and no group.
+    pub(crate) fn of_import(total: Wh) -> Tally
+        ensures { result ≡ record { totals = total ∷ replicate 35 (pos 0); credit = pos 0; peaks = replicate 37 (pos 0) } }
+    {
+        let mut totals = [Wh::new(0).unwrap(); 36];
+        totals[0] = total;
+        Tally {
+            totals,
+            credit: Money::new(0).unwrap(),
+            peaks: [Watt::new(0).unwrap(); 37],
+        }
+    }
+}
