@@ -1,6 +1,12 @@
 //! What a row of a battery file says.
 
-use d_model::Mode;
+ghost use Rattle.std.specs.Prelude.{◌≡◌, ℕ, ◌<◌, length, IfNone, IfSome};
+ghost use Rattle.dispatch.specs.Table.{row_at};
+
+use crate::number::read_whole;
+use crate::table::{Table, is_word};
+use d_model::{Mode, Name};
+use d_num::Wh;
 
 /// A number of the battery that a row may set.
 #[derive(Clone, Copy, Debug, PartialEq, Eq)]
@@ -20,4 +26,112 @@ pub enum Entry {
     Sets(Setting, i64),
     /// It has a mode.
     Has(Mode),
+}
+
+/// What a row says, or None exactly where it says nothing that a row may say.
+pub fn read_entry(table: &Table, row: usize) -> Option<Entry>
+    requires { row < length table.now }
+{
+    if table.width(row) != 6 {
+        return None;
+    }
+    let kind = table.cell(row, 0);
+    if is_word(kind, "set") {
+        read_setting(table, row)
+    } else if is_word(kind, "mode") {
+        read_mode(table, row)
+    } else {
+        None
+    }
+}
+
+/// The number that a row sets.
+fn read_setting(table: &Table, row: usize) -> Option<Entry>
+    requires row { row < length table.now }
+    requires six { length (row_at table.now row) ≡ 6 }
+{
+    let setting = setting_of(table.cell(row, 1))?;
+    let value = read_whole(table.cell(row, 2))?;
+    if value < 0 || value > setting.limit() {
+        return None;
+    }
+    Some(Entry::Sets(setting, value))
+}
+
+/// The setting of that name.
+fn setting_of(name: &[u8]) -> Option<Setting> {
+    if is_word(name, "capacity") {
+        Some(Setting::Capacity)
+    } else if is_word(name, "floor") {
+        Some(Setting::Floor)
+    } else if is_word(name, "start") {
+        Some(Setting::Start)
+    } else if is_word(name, "end") {
+        Some(Setting::End)
+    } else if is_word(name, "max_import_wh") {
+        Some(Setting::MaxImport)
+    } else if is_word(name, "max_export_wh") {
+        Some(Setting::MaxExport)
+    } else {
+        None
+    }
+}
+
+impl Setting {
+    /// Its greatest value: a level, or energy in Wh.
+    fn limit(self) -> i64 {
+        match self {
+            Setting::Capacity | Setting::Floor | Setting::Start | Setting::End => 255,
+            Setting::MaxImport | Setting::MaxExport => 10_000_000_000,
+        }
+    }
+}
+
+/// The mode of a row.
+fn read_mode(table: &Table, row: usize) -> Option<Entry>
+    requires row { row < length table.now }
+    requires six { length (row_at table.now row) ≡ 6 }
+{
+    let name = table.cell(row, 1);
+    if !is_mode_name(name) {
+        return None;
+    }
+    let change = read_whole(table.cell(row, 2))?;
+    let grid = read_whole(table.cell(row, 3))?;
+    let low = read_level(table.cell(row, 4), 0)?;
+    let high = read_level(table.cell(row, 5), 255)?;
+    if change < -255
+        || change > 255
+        || grid < -1_000_000_000
+        || grid > 1_000_000_000
+        || low > high
+    {
+        return None;
+    }
+    Some(Entry::Has(Mode {
+        name: Name::new(name)?,
+        change: change as i16,
+        grid: Wh::new(grid)?,
+        low,
+        high,
+    }))
+}
+
+/// The level that a cell gives; an empty one gives the level that stands for an absent one.
+fn read_level(cell: &[u8], absent: u8) -> Option<u8> {
+    if cell.is_empty() {
+        return Some(absent);
+    }
+    let value = read_whole(cell)?;
+    if value < 0 || value > 255 {
+        return None;
+    }
+    Some(value as u8)
+}
+
+/// Whether these are 1 to 32 ASCII letters, digits, underscores or minuses.
+fn is_mode_name(name: &[u8]) -> bool {
+    !name.is_empty()
+        && name.len() <= 32
+        && name.iter().all(|byte| byte.is_ascii_alphanumeric() || *byte == b'_' || *byte == b'-')
 }

@@ -1,13 +1,12 @@
 //! The desk of real files and of standard output.
 
-ghost use Rattle.std.specs.Prelude.{ℕ, [], None, ⊥, is_some, min, ◌≡◌, ◌≤◌, ◌+◌, ◌-◌, ◌^◌};
+ghost use Rattle.std.specs.Prelude.{ℕ, [], None, is_some, min, ◌≡◌, ◌≤◌, ◌+◌, ◌-◌, ◌^◌};
 ghost use Rattle.d_desk.specs.Cause.{Rose};
 
 use d_desk::{Desk, DeskFault};
-use std::fs;
-use std::io;
 use std::io::{ErrorKind, Read, Write};
 use std::rt::Files;
+use std::{fs, io};
 
 /// Files and standard output of the system. It tells nothing of what they hold: what a real file gives or keeps is trusted.
 ///
