@@ -1,2 +1,3 @@
 pub mod Arcs
 pub mod Cheapest
+pub mod Best
