@@ -1,3 +1,4 @@
 pub mod CostLemmas
 pub mod WayLemmas
 pub mod StepLemmas
+pub mod RowLemmas

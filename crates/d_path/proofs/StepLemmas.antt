@@ -1,10 +1,13 @@
 -- One step of the induction over intervals: the least cost before a move from the least costs after it.
-use Rattle.std.proofs.Common.{◌≡◌, ◌≢◌, ◌⊎◌, ◌+◌, ◌*◌, ◌≤◌, ◌<◌, ℕ, pos, zero, suc, List, [], ◌∷◌, length, Option, Some, None, cond, inl, inr, ap, sym, subst, ◌∙◌, refl, arith, slice_index_or, ◌==◌, ◌&&◌, nat_le}
+use Rattle.std.proofs.Common.{◌≡◌, ◌≢◌, ◌⊎◌, ◌+◌, ◌*◌, ◌≤◌, ◌<◌, ℕ, pos, zero, suc, List, [], ◌∷◌, length, Option, Some, None, cond, inl, inr, ap, sym, subst, ◌∙◌, refl, arith, slice_index_or, slice_get, option_and_then, ◌==◌, ◌&&◌, nat_le}
 use Rattle.std.proofs.lemmas.Bool.Decides.{nat_tests}
+use Rattle.std.proofs.lemmas.List.{get_or_default}
+use Rattle.std.proofs.lemmas.Option.{slice_get-get_or}
 use Rattle.d_num.specs.declared.pot.Pot.{Pot}
 use Rattle.d_num.specs.declared.pot.Pot.TheVariants.{To, NoWay}
 use Rattle.d_num.specs.Pot.{AtMost, joined}
-use Rattle.d_path.specs.Arcs.{Arcs, level_after, arc_cost, intervals_of, along, way_cost, IsSound}
+use Rattle.d_path.specs.declared.ways.Move.{Move}
+use Rattle.d_path.specs.Arcs.{Arcs, next_level, level_after, arc_cost, intervals_of, along, way_cost, IsSound}
 use Rattle.d_path.specs.Cheapest.{IsCheapest, IsNotAfter, IsFirstCheapest, entry, HasCheapest}
 use Rattle.d_path.specs.Best.{IsFirstPlace, IsFirstBest, AreCostsAt, cost_by}
 use Rattle.d_path.proofs.CostLemmas.{AtMost-refl, AtMost-trans, AtMost-antisym, AtMost-other, AtMost-NoWay, AtMost-along, joined-NoWay, joined_cancel, along-NoWay}
@@ -42,6 +45,13 @@ best_moves f k p place best worse = record {
     first = λ m less e. worse (subst (λ (q : Pot). AtMost p q) e (best.least m less))
   })
 }
+
+-- what a loop over the moves reads at a number is what the move of that number costs
+pub read_cost : (a : Arcs) (costs next : List Pot) (level m : ℕ) (cost : Pot) (d : Move) → m < length a.moves → length costs ≡ length a.moves → cost ≡ slice_index_or costs m cost → along cost (next_level a level (slice_index_or a.moves m d)) (entry a next) ≡ cost_by a costs next level m
+read_cost a costs next level m cost d lt long read =
+    let here : cost ≡ slice_index_or costs m NoWay = read ∙ get_or_default costs m cost NoWay (omega arith) in
+    ap (λ (c : Pot). along c (next_level a level (slice_index_or a.moves m d)) (entry a next)) here
+    ∙ ap (λ (o : Option Move). along (slice_index_or costs m NoWay) (option_and_then (next_level a level) o) (entry a next)) (sym (slice_get-get_or a.moves m d lt))
 
 past_no_way : (a : Arcs) (t level m : ℕ) (ms : List ℕ) → length a.moves ≤ m → way_cost a t level (m ∷ ms) ≡ NoWay
 past_no_way a t level m ms h = ap (λ (o : Option ℕ). along (arc_cost a t m) o (λ after. way_cost a (t + 1) after ms)) (level_after_past a level m h)

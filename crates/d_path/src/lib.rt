@@ -4,6 +4,11 @@
 //! This crate knows nothing of tariffs or energy: a cost is a number, or says that the move may not be used there.
 #![tactic(auto)]
 
+mod layers;
+mod least;
+mod steps;
 mod ways;
 
+pub use layers::Layers;
+pub use least::backward;
 pub use ways::{Move, Ways};
