@@ -2,3 +2,4 @@ pub mod CostLemmas
 pub mod WayLemmas
 pub mod StepLemmas
 pub mod RowLemmas
+pub mod FirstLemmas

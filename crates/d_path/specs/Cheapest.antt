@@ -11,6 +11,10 @@ pub record IsCheapest (a : Arcs) (t level : ℕ) (p : Pot) : Type 0 where
   pub least : (ms : List ℕ) → AtMost p (way_cost a t level ms)
   pub reached : (p ≡ NoWay) ⊎ ((ms : List ℕ) × (way_cost a t level ms ≡ p))
 
+-- some way leads on from this level at interval t
+abbrev pub HasWay : Arcs → ℕ → ℕ → Type 0
+HasWay a t level = (ms : List ℕ) × (way_cost a t level ms ≢ NoWay)
+
 -- a list of numbers is the other one or comes before it in a dictionary's order
 abbrev pub IsNotAfter : List ℕ → List ℕ → Type 0
 IsNotAfter [] ys = ⊤

@@ -4,11 +4,13 @@
 //! This crate knows nothing of tariffs or energy: a cost is a number, or says that the move may not be used there.
 #![tactic(auto)]
 
+mod first;
 mod layers;
 mod least;
 mod steps;
 mod ways;
 
+pub use first::first_cheapest;
 pub use layers::Layers;
 pub use least::backward;
 pub use ways::{Move, Ways};
