@@ -1,0 +1,5 @@
+pub mod CostLemmas
+pub mod WayLemmas
+pub mod StepLemmas
+pub mod RowLemmas
+pub mod FirstLemmas

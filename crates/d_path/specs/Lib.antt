@@ -1,0 +1,4 @@
+pub mod Arcs
+pub mod Cheapest
+pub mod Best
+pub mod Rows

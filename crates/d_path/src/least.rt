@@ -1,0 +1,99 @@
+//! The least costs, layer by layer from the month's end.
+
+ghost use Rattle.std.specs.Prelude.{◌≡◌, ◌+◌, ◌<◌, [], length, slice_index_or};
+ghost use Rattle.d_path.specs.Arcs.{arcs_of, intervals_of, IsSound};
+ghost use Rattle.d_path.specs.Cheapest.{HasCheapest, AllCheapest, IsWide};
+ghost use Rattle.d_path.specs.Rows.{rows_of, WritesRow};
+
+use crate::layers::Layers;
+use crate::steps::{best_move, costs_at};
+use crate::ways::Ways;
+use d_num::{Money, Pot};
+
+/// Makes each entry of this row the least cost from its level at interval t, where the next row has those at the interval after it.
+fn fill_row(ways: &Ways, t: usize, row: &mut [Pot], next: &[Pot])
+    requires sound { IsSound (arcs_of ways.now) }
+    requires inside { t < intervals_of (arcs_of ways.now) }
+    requires wide { ways.now.floor + length row.old ≡ ways.now.capacity + 1 }
+    requires next_wide { ways.now.floor + length next.now ≡ ways.now.capacity + 1 }
+    requires next_cheapest { HasCheapest (arcs_of ways.now) (t + 1) next.now }
+    ensures { HasCheapest (arcs_of ways.now) t row.new }
+{
+    let costs = costs_at(ways, t);
+    for (column, entry) in row.iter_mut().enumerate() {
+        let level = ways.floor + column as u8;
+        *entry = best_move(ways, costs, level, next).cost;
+    }
+}
+
+/// Makes each entry of this row the least cost from its level at the month's end: nothing where a way may end there.
+fn fill_last(ways: &Ways, row: &mut [Pot])
+    requires sound { IsSound (arcs_of ways.now) }
+    requires wide { ways.now.floor + length row.old ≡ ways.now.capacity + 1 }
+    ensures { HasCheapest (arcs_of ways.now) (intervals_of (arcs_of ways.now)) row.new }
+{
+    let nothing = Money::new(0).unwrap();
+    for (column, entry) in row.iter_mut().enumerate() {
+        let level = ways.floor + column as u8;
+        *entry = if level < ways.end {
+            Pot::NoWay
+        } else {
+            Pot::To(nothing)
+        };
+    }
+}
+
+/// Makes row t the least costs at interval t, where the row after it has those at the interval after it.
+fn fill_at(ways: &Ways, t: usize, rows: &mut [Vec<Pot>])
+    requires sound { IsSound (arcs_of ways.now) }
+    requires inside { t < intervals_of (arcs_of ways.now) }
+    requires rows { length rows.old ≡ intervals_of (arcs_of ways.now) + 1 }
+    requires columns { IsWide ways.now.floor ways.now.capacity (rows_of rows.old) }
+    requires next_cheapest { HasCheapest (arcs_of ways.now) (t + 1)
+        (slice_index_or (rows_of rows.old) (t + 1) []) }
+    ensures { WritesRow (arcs_of ways.now) t (rows_of rows.old) (rows_of rows.new) }
+{
+    let (before, after) = rows.split_at_mut(t + 1);
+    fill_row(ways, t, before[t].as_mut_slice(), after[0].as_slice());
+}
+
+/// Makes the last row the least costs at the month's end.
+fn fill_end(ways: &Ways, rows: &mut [Vec<Pot>])
+    requires sound { IsSound (arcs_of ways.now) }
+    requires rows { length rows.old ≡ intervals_of (arcs_of ways.now) + 1 }
+    requires columns { IsWide ways.now.floor ways.now.capacity (rows_of rows.old) }
+    ensures { WritesRow (arcs_of ways.now) (intervals_of (arcs_of ways.now))
+        (rows_of rows.old) (rows_of rows.new) }
+{
+    let last = rows.len() - 1;
+    fill_last(ways, rows[last].as_mut_slice());
+}
+
+/// Makes each row the least costs at its interval.
+fn fill(ways: &Ways, rows: &mut [Vec<Pot>])
+    requires sound { IsSound (arcs_of ways.now) }
+    requires rows { length rows.old ≡ intervals_of (arcs_of ways.now) + 1 }
+    requires columns { IsWide ways.now.floor ways.now.capacity (rows_of rows.old) }
+    ensures columns { IsWide ways.now.floor ways.now.capacity (rows_of rows.new) }
+    ensures cheapest { AllCheapest (arcs_of ways.now) (rows_of rows.new) }
+{
+    fill_end(ways, rows);
+    for t in (0..rows.len() - 1).rev() {
+        fill_at(ways, t, rows);
+    }
+}
+
+/// Makes each entry of the layers the least cost from its level at its interval to an allowed end, over all ways, or `NoWay`
+/// where no way leads there. Row t has the costs from interval t on, and the last row those at the month's end.
+///
+/// It takes no memory.
+pub fn backward(ways: &Ways, layers: &mut Layers)
+    requires sound { IsSound (arcs_of ways.now) }
+    requires rows { length layers.old ≡ intervals_of (arcs_of ways.now) + 1 }
+    requires columns { IsWide ways.now.floor ways.now.capacity layers.old }
+    ensures rows { length layers.new ≡ length layers.old }
+    ensures columns { IsWide ways.now.floor ways.now.capacity layers.new }
+    ensures cheapest { AllCheapest (arcs_of ways.now) layers.new }
+{
+    fill(ways, layers.rows.as_mut_slice());
+}

@@ -1,0 +1,31 @@
+//! Moves, what they cost, and the levels between which they may be used.
+
+use d_num::Pot;
+
+/// One thing that may be done in an interval.
+#[derive(Clone, Copy, PartialEq, Eq, Debug)]
+pub struct Move {
+    /// By how many levels the level rises.
+    pub change: i16,
+    /// The least level at which it may begin.
+    pub low: u8,
+    /// The greatest level at which it may begin.
+    pub high: u8,
+}
+
+/// The intervals of a month, and the moves that there are in each.
+#[derive(Clone, Copy, Debug)]
+pub struct Ways<'a> {
+    /// What each move costs in each interval, interval by interval; `NoWay` marks a move that may not be used there.
+    pub costs: &'a [Pot],
+    /// The moves, by their numbers.
+    pub moves: &'a [Move],
+    /// The least level that a way may pass.
+    pub floor: u8,
+    /// The greatest level that a way may pass.
+    pub capacity: u8,
+    /// The level where a way begins.
+    pub start: u8,
+    /// The least level at which a way may end.
+    pub end: u8,
+}
