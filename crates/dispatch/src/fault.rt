@@ -1,8 +1,9 @@
 //! Why a request isn't answered with a plan.
 
 ghost use Rattle.std.specs.Prelude.{◌≡◌};
+ghost use Rattle.dispatch.specs.Answer.{refusal_text, refusal_verdict};
 
-use d_desk::DeskFault;
+use crate::verdict::Verdict;
 use d_num::NoMemory;
 use std::alloc::{AllocError, AllocFailed};
 use thiserror::Error;
@@ -28,6 +29,35 @@ pub enum Refusal {
     Readings,
     LongBattery,
     Battery,
+}
+
+impl Refusal {
+    /// The line that is printed.
+    pub fn text(self) -> &'static str
+        ensures { result.now ≡ refusal_text self }
+    {
+        match self {
+            Refusal::Words => "refused words 23 NotYet\n",
+            Refusal::LongRecord => "refused record 0 TooLong\n",
+            Refusal::Record => "refused record 23 NotYet none 0\n",
+            Refusal::LongReadings => "refused readings 0 TooLong\n",
+            Refusal::Readings => "refused readings 23 NotYet\n",
+            Refusal::LongBattery => "refused battery 0 TooLong\n",
+            Refusal::Battery => "refused battery 23 NotYet\n",
+        }
+    }
+
+    /// The verdict of a run that it ends.
+    pub fn verdict(self) -> Verdict
+        ensures { result ≡ refusal_verdict self }
+    {
+        match self {
+            Refusal::Words => Verdict::Words,
+            Refusal::LongRecord | Refusal::Record => Verdict::Record,
+            Refusal::LongReadings | Refusal::Readings => Verdict::Readings,
+            Refusal::LongBattery | Refusal::Battery => Verdict::Battery,
+        }
+    }
 }
 
 /// Why the program stops before it has a plan.

@@ -1,10 +1,13 @@
 //! The dispatcher: plans a building's battery for one month and prints the plan with its exact bill.
 #![tactic(auto)]
 
+mod answer;
 mod battery;
 mod entry;
 mod fault;
+mod least;
 mod number;
+mod plan;
 mod readings;
 mod real;
 mod record;
@@ -13,4 +16,35 @@ mod text;
 mod verdict;
 mod words;
 
-fn main(rt: HostRuntime) {}
+use answer::run;
+use real::RealDesk;
+use std::io::ErrorKind;
+use std::process::ExitCode;
+use std::rt::Env;
+use std::{env, io};
+use verdict::Status;
+
+// The status where the words can't be had from the system, as where one isn't UTF-8.
+const NO_WORDS: u8 = 10;
+
+fn main(rt: HostRuntime) -> ExitCode {
+    let alloc = rt.alloc();
+    let words = match words_of(&rt) {
+        Ok(words) => words,
+        Err(error) if error.kind() == ErrorKind::OutOfMemory => {
+            return ExitCode::from(Status::Memory.number());
+        }
+        Err(_) => return ExitCode::from(NO_WORDS),
+    };
+    let mut desk = RealDesk::new(rt);
+    ExitCode::from(run(alloc, words.as_slice(), &mut desk).number())
+}
+
+/// The program's words, without its name.
+fn words_of<R: Env + AllocGlobal>(rt: &R) -> io::Result<Vec<String>> {
+    let mut words = Vec::new(rt.alloc());
+    for word in env::args(rt)?.skip(1) {
+        words.push(word)?;
+    }
+    Ok(words)
+}

@@ -1,0 +1,78 @@
+//! The first least schedule of a problem, found over the ways of its battery's modes.
+
+ghost use Rattle.std.specs.Prelude.{◌≡◌, ℕ, List, ◌∷◌, MatchOption, IfOk};
+ghost use Rattle.d_model.specs.Shown.{inputs_of};
+ghost use Rattle.d_model.specs.Schedules.{IsFeasible};
+ghost use Rattle.d_model.specs.Bills.{IsFirstLeast};
+
+use d_model::{Battery, Mode, Problem};
+use d_num::{NoMemory, Pot};
+use d_path::{Layers, Move, Ways, backward, first_cheapest};
+use std::alloc::Global;
+
+/// The first of the least schedules, in the order of lists of mode numbers, or None exactly where no schedule is feasible.
+pub fn least_schedule(alloc: Global, problem: &Problem) -> Result<Option<Vec<u8>>, NoMemory>
+    ensures { IfOk result (λ found. MatchOption found ((s : List ℕ) → IsFeasible (inputs_of problem.now) s → ⊥) (λ schedule. IsFirstLeast (inputs_of problem.now) schedule.items)) }
+{
+    let intervals = problem.intervals();
+    let battery = problem.battery();
+    let costs = costs_of(alloc, problem)?;
+    let moves = moves_of(alloc, battery.modes.as_slice())?;
+    let ways = ways_of(battery, costs.as_slice(), moves.as_slice());
+    let mut layers = Layers::make(
+        alloc,
+        intervals + 1,
+        (battery.capacity - battery.floor) as u16 + 1,
+    )?;
+    backward(&ways, &mut layers);
+    let mut schedule = vec![in alloc; 0u8; intervals as usize]?;
+    if first_cheapest(&ways, &layers, schedule.as_mut_slice()) {
+        Ok(Some(schedule))
+    } else {
+        Ok(None)
+    }
+}
+
+/// The ways of a battery at these costs and moves.
+fn ways_of<'a>(battery: &Battery, costs: &'a [Pot], moves: &'a [Move]) -> Ways<'a> {
+    Ways {
+        costs,
+        moves,
+        floor: battery.floor,
+        capacity: battery.capacity,
+        start: battery.start,
+        end: battery.end,
+    }
+}
+
+/// What each mode costs in each interval, interval by interval.
+fn costs_of(alloc: Global, problem: &Problem) -> Result<Vec<Pot>, NoMemory> {
+    let modes = problem.battery().modes.len();
+    let count = problem.intervals() as usize * modes;
+    let mut costs = Vec::with_capacity(alloc, count)?;
+    for place in 0..count {
+        costs.push(cost_of(problem, (place / modes) as u32, (place % modes) as u8))?;
+    }
+    Ok(costs)
+}
+
+/// What a mode costs in an interval: its import at the price, or no way where the battery's limits don't allow it.
+fn cost_of(problem: &Problem, interval: u32, mode: u8) -> Pot {
+    match problem.arc(interval, mode) {
+        Some(arc) => Pot::To(problem.price().times(arc.import.value())),
+        None => Pot::NoWay,
+    }
+}
+
+/// How the modes move the battery's level.
+fn moves_of(alloc: Global, modes: &[Mode]) -> Result<Vec<Move>, NoMemory> {
+    let mut moves = Vec::with_capacity(alloc, modes.len())?;
+    for mode in modes {
+        moves.push(Move {
+            change: mode.change,
+            low: mode.low,
+            high: mode.high,
+        })?;
+    }
+    Ok(moves)
+}
