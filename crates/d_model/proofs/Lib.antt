@@ -1,2 +1,3 @@
 pub mod FlowFacts
 pub mod RangeFacts
+pub mod RuleFacts

@@ -24,6 +24,7 @@ pub struct Problem {
 
 impl Problem {
     ghost use Rattle.std.specs.Prelude.{◌≡◌, ◌<◌, ◌+ℤ◌, pos, length, IfOk, OnOk, OnErr, IfErr, IfNone, IfSome, slice_get};
+    ghost use Rattle.jiff_core.specs.Calendar.{IsBetween};
     ghost use Rattle.d_model.specs.Storage.{IsMode};
     ghost use Rattle.d_model.specs.Inputs.{IsInRange};
     ghost use Rattle.d_model.specs.Flows.{net_at, arc_of, permitted_arc};
@@ -176,15 +177,26 @@ impl Problem {
         if level < mode.low || level > mode.high {
             return None;
         }
-        let after = level as i16 + mode.change;
+        let after = self.level_after(level, mode.change)?;
+        let arc = self.arc(t, number)?;
+        Some(Step {
+            level: after,
+            import: arc.import,
+        })
+    }
+
+    /// The level after a change, or None exactly where the battery hasn't it.
+    fn level_after(&self, level: u8, change: i16) -> Option<u8>
+        requires { IsWithin 255 change }
+        ensures value { IfSome result (λ after. pos after ≡ pos level +ℤ change) }
+        ensures kept { IfSome result (λ after. IsBetween (pos (inputs_of self.now).storage.floor) (pos (inputs_of self.now).storage.capacity) (pos after)) }
+        ensures refused { IfNone result (¬ IsBetween (pos (inputs_of self.now).storage.floor) (pos (inputs_of self.now).storage.capacity) (pos level +ℤ change)) }
+    {
+        let after = level as i16 + change;
         if after < self.battery.floor as i16 || after > self.battery.capacity as i16 {
             return None;
         }
-        let arc = self.arc(t, number)?;
-        Some(Step {
-            level: after as u8,
-            import: arc.import,
-        })
+        Some(after as u8)
     }
 
     /// What is charged for a schedule of this tally.
