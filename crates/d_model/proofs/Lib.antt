@@ -1,3 +1,4 @@
 pub mod FlowFacts
 pub mod RangeFacts
 pub mod RuleFacts
+pub mod WalkFacts

@@ -124,7 +124,9 @@ impl Problem {
     {
         let import = taken(flow);
         let export = sent(flow);
-        if !is_within(import, self.battery.max_import) || !is_within(export, self.battery.max_export) {
+        if !is_within(import, self.battery.max_import)
+            || !is_within(export, self.battery.max_export)
+        {
             return None;
         }
         Some(Arc {
@@ -144,9 +146,10 @@ impl Problem {
         ensures refused { IfErr result (λ at. IsFirstBreak (inputs_of self.now) schedule.now at.interval) }
         ensures same { OnErr result (tally.new ≡ tally.old) }
     {
+        let count = self.intervals();
         let mut level = self.battery.start;
         let mut total = 0;
-        for t in 0..self.intervals() {
+        for t in 0..count {
             let Some(step) = self.step(t, level, schedule[t as usize]) else {
                 return Err(At { interval: t });
             };
@@ -154,9 +157,7 @@ impl Problem {
             total += step.import.value();
         }
         if level < self.battery.end {
-            return Err(At {
-                interval: self.intervals(),
-            });
+            return Err(At { interval: count });
         }
         *tally = Tally::of_import(Wh::new(total).unwrap());
         Ok(())
