@@ -23,7 +23,7 @@ pub struct Problem {
 }
 
 impl Problem {
-    ghost use Rattle.std.specs.Prelude.{◌≡◌, ◌<◌, ◌+ℤ◌, pos, length, IfOk, OnOk, OnErr, IfErr, IfNone, IfSome, slice_get};
+    ghost use Rattle.std.specs.Prelude.{◌≡◌, ℕ, ◌<◌, ◌+ℤ◌, pos, length, IfOk, OnOk, OnErr, IfErr, IfNone, IfSome, slice_get};
     ghost use Rattle.jiff_core.specs.Calendar.{IsBetween};
     ghost use Rattle.d_model.specs.Storage.{IsMode};
     ghost use Rattle.d_model.specs.Inputs.{IsInRange};
@@ -144,6 +144,8 @@ impl Problem {
         ensures tally { OnOk result (tally.new ≡ tally_of (inputs_of self.now) schedule.now) }
         ensures counted { OnOk result (IsTallyOfSome (inputs_of self.now) tally.new) }
         ensures refused { IfErr result (λ at. IsFirstBreak (inputs_of self.now) schedule.now at.interval) }
+        ensures infeasible { OnErr result (¬ IsFeasible (inputs_of self.now) schedule.now) }
+        ensures only { IfErr result (λ at. (t : ℕ) → IsFirstBreak (inputs_of self.now) schedule.now t → t ≡ at.interval) }
         ensures same { OnErr result (tally.new ≡ tally.old) }
     {
         let count = self.intervals();
