@@ -1,8 +1,8 @@
 -- What a flow takes, sends and draws.
-use Rattle.std.proofs.Common.{◌≡◌, ◌==◌, ◌||◌, ℕ, ℤ, pos, negsuc, neg_ℤ, ◌+ℤ◌, ◌*ℤ◌, ◌*◌, ◌^◌, ◌/◌, ◌≤ℤ◌, ◌<ℤ◌, Option, Some, None, ◌⊎◌, inl, inr, arith, rules, tests, refl, ap, sym, ◌∙◌, IsTrue, to_z, of_z, w64}
+use Rattle.std.proofs.Common.{◌≡◌, ℕ, ℤ, pos, negsuc, ◌+ℤ◌, ◌*ℤ◌, ◌*◌, ◌^◌, ◌/◌, ◌≤ℤ◌, Option, Some, None, ◌⊎◌, inl, inr, arith, refl, ap, to_z, of_z, w64}
 use Rattle.std.proofs.lemmas.Int.{ints}
 use Rattle.std.proofs.lemmas.Bool.Decides.{nat_tests}
-use Rattle.std.specs.Prelude.{int_div, int_le}
+use Rattle.std.specs.Prelude.{int_div}
 use Rattle.d_num.specs.Amount.{IsWithin, IsPowerOf}
 use Rattle.d_model.specs.declared.arc.Arc.{Arc}
 use Rattle.d_model.specs.Readings.{IsReadingLength}

@@ -1,5 +1,5 @@
 -- Schedules, which are lists of mode numbers, one an interval, and the rules that they keep. All rules are our own.
-use Rattle.std.specs.Prelude.{◌≡◌, ◌⊎◌, ℕ, ℤ, pos, ◌+◌, ◌<◌, ◌≤ℤ◌, ◌<ℤ◌, ◌+ℤ◌, List, Some, length, slice_get, slice_index, option_map, unwrap_or}
+use Rattle.std.specs.Prelude.{◌≡◌, ◌⊎◌, ℕ, ℤ, pos, ◌<◌, ◌≤ℤ◌, ◌<ℤ◌, ◌+ℤ◌, List, Some, length, slice_get, slice_index, option_map, unwrap_or}
 use Rattle.d_model.specs.declared.mode.Mode.{Mode}
 use Rattle.d_model.specs.Inputs.{Inputs}
 use Rattle.d_model.specs.Sums.{sum_of_first}

@@ -1,6 +1,5 @@
 -- What is counted of a schedule before it is priced.
 use Rattle.std.specs.Prelude.{◌≡◌, ℕ, ℤ, pos, List, ◌∷◌, length, replicate, slice_get, slice_index, option_map, unwrap_or}
-use Rattle.d_model.specs.declared.mode.Mode.{Mode}
 use Rattle.d_model.specs.Inputs.{Inputs}
 use Rattle.d_model.specs.Sums.{sum_of_first}
 use Rattle.d_model.specs.Flows.{import_of, flow_of}

@@ -23,7 +23,8 @@ pub struct Problem {
 }
 
 impl Problem {
-    ghost use Rattle.std.specs.Prelude.{◌≡◌, ◌<◌, ◌+ℤ◌, pos, length, IfOk, OnOk, OnErr, IfErr, IfNone, IfSome, slice_get};
+    ghost use Rattle.std.specs.Prelude.{◌≡◌, ℕ, ◌<◌, ◌+ℤ◌, pos, length, IfOk, OnOk, OnErr, IfErr, IfNone, IfSome, slice_get};
+    ghost use Rattle.jiff_core.specs.Calendar.{IsBetween};
     ghost use Rattle.d_model.specs.Storage.{IsMode};
     ghost use Rattle.d_model.specs.Inputs.{IsInRange};
     ghost use Rattle.d_model.specs.Flows.{net_at, arc_of, permitted_arc};
@@ -123,7 +124,9 @@ impl Problem {
     {
         let import = taken(flow);
         let export = sent(flow);
-        if !is_within(import, self.battery.max_import) || !is_within(export, self.battery.max_export) {
+        if !is_within(import, self.battery.max_import)
+            || !is_within(export, self.battery.max_export)
+        {
             return None;
         }
         Some(Arc {
@@ -141,11 +144,14 @@ impl Problem {
         ensures tally { OnOk result (tally.new ≡ tally_of (inputs_of self.now) schedule.now) }
         ensures counted { OnOk result (IsTallyOfSome (inputs_of self.now) tally.new) }
         ensures refused { IfErr result (λ at. IsFirstBreak (inputs_of self.now) schedule.now at.interval) }
+        ensures infeasible { OnErr result (¬ IsFeasible (inputs_of self.now) schedule.now) }
+        ensures only { IfErr result (λ at. (t : ℕ) → IsFirstBreak (inputs_of self.now) schedule.now t → t ≡ at.interval) }
         ensures same { OnErr result (tally.new ≡ tally.old) }
     {
+        let count = self.intervals();
         let mut level = self.battery.start;
         let mut total = 0;
-        for t in 0..self.intervals() {
+        for t in 0..count {
             let Some(step) = self.step(t, level, schedule[t as usize]) else {
                 return Err(At { interval: t });
             };
@@ -153,9 +159,7 @@ impl Problem {
             total += step.import.value();
         }
         if level < self.battery.end {
-            return Err(At {
-                interval: self.intervals(),
-            });
+            return Err(At { interval: count });
         }
         *tally = Tally::of_import(Wh::new(total).unwrap());
         Ok(())
@@ -176,15 +180,26 @@ impl Problem {
         if level < mode.low || level > mode.high {
             return None;
         }
-        let after = level as i16 + mode.change;
+        let after = self.level_after(level, mode.change)?;
+        let arc = self.arc(t, number)?;
+        Some(Step {
+            level: after,
+            import: arc.import,
+        })
+    }
+
+    /// The level after a change, or None exactly where the battery hasn't it.
+    fn level_after(&self, level: u8, change: i16) -> Option<u8>
+        requires { IsWithin 255 change }
+        ensures value { IfSome result (λ after. pos after ≡ pos level +ℤ change) }
+        ensures kept { IfSome result (λ after. IsBetween (pos (inputs_of self.now).storage.floor) (pos (inputs_of self.now).storage.capacity) (pos after)) }
+        ensures refused { IfNone result (¬ IsBetween (pos (inputs_of self.now).storage.floor) (pos (inputs_of self.now).storage.capacity) (pos level +ℤ change)) }
+    {
+        let after = level as i16 + change;
         if after < self.battery.floor as i16 || after > self.battery.capacity as i16 {
             return None;
         }
-        let arc = self.arc(t, number)?;
-        Some(Step {
-            level: after as u8,
-            import: arc.import,
-        })
+        Some(after as u8)
     }
 
     /// What is charged for a schedule of this tally.

@@ -1,4 +1,4 @@
-use Rattle.std.proofs.Common.{ℤ, pos, ◌≡◌, ◌≤ℤ◌, rules, FitsSigned, w64}
+use Rattle.std.proofs.Common.{◌≡◌, ◌≤ℤ◌, rules, FitsSigned, w64}
 use Rattle.std.proofs.lemmas.Int.{to_z-of_z}
 use Rattle.d_model.specs.Flows.{import_of, export_of}
 use Rattle.d_model.specs.Shown.{inputs_of}

@@ -1,0 +1,58 @@
+-- Laws of the definitions: a schedule has one first break at most and none where it is feasible, and inputs have one first least schedule at most.
+use Rattle.std.proofs.Common.{◌≡◌, ◌⊎◌, inl, inr, ℕ, ℤ, pos, ◌+◌, ◌<◌, ◌≤◌, ◌≤ℤ◌, ◌<ℤ◌, List, [], ◌∷◌, length, refl, sym, ap, arith}
+use Rattle.std.proofs.Math.Path.{ap₂}
+use Rattle.std.proofs.lemmas.Int.{ints}
+use Rattle.d_model.specs.Inputs.{Inputs}
+use Rattle.d_model.specs.Schedules.{KeepsAt, IsFeasible, IsFirstBreak, level_at}
+use Rattle.d_model.specs.Bills.{bill_of, IsLeast, IsNotAfter, IsFirstLeast}
+
+-- nothing is above and at most the same number
+not_both : (a b : ℤ) → a <ℤ b → b ≤ℤ a → ⊥
+not_both a b above below = omega (arith, ints)
+
+-- a schedule with a first break isn't feasible
+pub break_excludes : (i : Inputs) (s : List ℕ) (t : ℕ) → IsFirstBreak i s t → IsFeasible i s → ⊥
+break_excludes i s t first feasible = by_break first.breaks
+  where
+    by_break : ((t < length i.net) × (¬ KeepsAt i s t)) ⊎ ((t ≡ length i.net) × (level_at i s t <ℤ pos i.storage.end)) → ⊥
+    by_break (inl broken) = broken.1 (feasible.keeps t broken.0)
+    by_break (inr missed) = not_both (level_at i s t) (pos i.storage.end) missed.1 (rw missed.0 feasible.ends)
+
+-- the first of two breaks can't come before the second
+not_before : (i : Inputs) (s : List ℕ) (t u : ℕ) → IsFirstBreak i s t → IsFirstBreak i s u → t < u → ⊥
+not_before i s t u first second before = by_breaks first.breaks second.breaks
+  where
+    by_breaks : ((t < length i.net) × (¬ KeepsAt i s t)) ⊎ ((t ≡ length i.net) × (level_at i s t <ℤ pos i.storage.end)) →
+        ((u < length i.net) × (¬ KeepsAt i s u)) ⊎ ((u ≡ length i.net) × (level_at i s u <ℤ pos i.storage.end)) → ⊥
+    by_breaks (inl broken) other = broken.1 (second.kept t before)
+    by_breaks (inr missed) (inl broken) = let at_end = missed.0 in let inside = broken.0 in absurd (omega arith)
+    by_breaks (inr missed) (inr again) = let at_end = missed.0 in let there = again.0 in absurd (omega arith)
+
+-- a schedule has one first break at most
+pub first_break_same : (i : Inputs) (s : List ℕ) (t u : ℕ) → IsFirstBreak i s t → IsFirstBreak i s u → t ≡ u
+first_break_same i s t u first second = order (not_before i s t u first second) (not_before i s u t second first)
+  where
+    order : (t < u → ⊥) → (u < t → ⊥) → t ≡ u
+    order low high = omega arith
+
+-- two lists neither of which comes after the other are one
+pub IsNotAfter-antisym : (xs ys : List ℕ) → IsNotAfter xs ys → IsNotAfter ys xs → xs ≡ ys
+IsNotAfter-antisym [] [] low high = refl
+IsNotAfter-antisym [] (y ∷ ys) low high = absurd high
+IsNotAfter-antisym (x ∷ xs) [] low high = absurd low
+IsNotAfter-antisym (x ∷ xs) (y ∷ ys) (inl below) (inl above) = absurd (omega arith)
+IsNotAfter-antisym (x ∷ xs) (y ∷ ys) (inl below) (inr above) = let e = above.0 in absurd (omega arith)
+IsNotAfter-antisym (x ∷ xs) (y ∷ ys) (inr below) (inl above) = let e = below.0 in absurd (omega arith)
+IsNotAfter-antisym (x ∷ xs) (y ∷ ys) (inr below) (inr above) = ap₂ ◌∷◌ below.0 (IsNotAfter-antisym xs ys below.1 above.1)
+
+-- two least schedules have one bill
+pub least_bill_same : (i : Inputs) (s z : List ℕ) → IsLeast i s → IsLeast i z → bill_of i s ≡ bill_of i z
+least_bill_same i s z one other = antisym (bill_of i s) (bill_of i z) (one.least z other.feasible) (other.least s one.feasible)
+  where
+    antisym : (a b : ℤ) → a ≤ℤ b → b ≤ℤ a → a ≡ b
+    antisym a b low high = omega (arith, ints)
+
+-- inputs have one first least schedule at most
+pub first_least_same : (i : Inputs) (s z : List ℕ) → IsFirstLeast i s → IsFirstLeast i z → s ≡ z
+first_least_same i s z one other =
+    IsNotAfter-antisym s z (one.first z other.least.feasible (least_bill_same i z s other.least one.least)) (other.first s one.least.feasible (least_bill_same i s z one.least other.least))
