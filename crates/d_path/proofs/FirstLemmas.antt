@@ -21,8 +21,9 @@ way_there a t level p way cheapest none =
 -- and the other way round
 pub cheapest_there : (a : Arcs) (t level : ℕ) (p : Pot) → IsCheapest a t level p → p ≢ NoWay → HasWay a t level
 cheapest_there a t level p cheapest there = elim cheapest.reached [
-    inl none ↦ absurd (there none)
-  | inr way ↦ (way.0, λ none. there (sym way.1 ∙ none)) ]
+  | inl none ↦ absurd (there none)
+  | inr way ↦ (way.0, λ none. there (sym way.1 ∙ none))
+]
 
 -- the best cost that is there has its place
 pub place_of : (f : ℕ → Pot) (k : ℕ) (p : Pot) (place : ℕ) → IsFirstBest f k p place → p ≢ NoWay → IsFirstPlace f k p place
@@ -46,7 +47,7 @@ first_move_is a t level costs next p place after row after_is lt best there e =
     record {
       leads = e;
       there = λ none. there (sym first.has ∙ ap (λ (o : Option ℕ). along c o (entry a next)) e ∙ ap (joined c) none ∙ joined-NoWay c);
-      begins = λ tail rest. first_step a t level costs next row after_is p place after tail lt best first there e rest
+      begins = λ tail rest. first_step a t level costs next row after_is p place after tail lt best first there e rest;
     }
 
 -- the first t moves of s lead from the start to this level, from which a way is there, and begin the first cheapest way
@@ -66,9 +67,9 @@ on_more a layers t level number after s next row lt on same move = record {
   level_in = level_after_in a level number after move.leads;
   there = subst (λ (r : List Pot). entry a r after ≢ NoWay) same move.there;
   so_far = λ tail rest.
-    let front : take (t + 1) (slice_set s t number) ≡ take t s ++ (number ∷ []) = take_more_set s t number lt in
-    let whole : take (t + 1) (slice_set s t number) ++ tail ≡ take t s ++ (number ∷ tail) = ap (λ (l : List ℕ). l ++ tail) front ∙ append_assoc (take t s) (number ∷ []) tail in
-    subst (λ (l : List ℕ). IsFirstCheapest a 0 a.start l) (sym whole) (on.so_far (number ∷ tail) (move.begins tail rest))
+      let front : take (t + 1) (slice_set s t number) ≡ take t s ++ (number ∷ []) = take_more_set s t number lt in
+      let whole : take (t + 1) (slice_set s t number) ++ tail ≡ take t s ++ (number ∷ tail) = ap (λ (l : List ℕ). l ++ tail) front ∙ append_assoc (take t s) (number ∷ []) tail in
+      subst (λ (l : List ℕ). IsFirstCheapest a 0 a.start l) (sym whole) (on.so_far (number ∷ tail) (move.begins tail rest));
 }
 
 pub on_end : (a : Arcs) (layers : List (List Pot)) (t level : ℕ) (s : List ℕ) → IsSound a → AllCheapest a layers → t ≡ intervals_of a → t ≡ length s → IsOnFirst a layers t level s → IsFirstCheapest a 0 a.start s

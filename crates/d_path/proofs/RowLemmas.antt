@@ -20,14 +20,15 @@ AreCheapestBelow a t row count = (column : ℕ) → column < count → IsCheapes
 -- one more column
 pub columns_more : (a : Arcs) (t : ℕ) (row : List Pot) (column level : ℕ) (p : Pot) → AreCheapestBelow a t row column → column < length row → level ≡ a.floor + column → IsCheapest a t level p → AreCheapestBelow a t (slice_set row column p) (column + 1)
 columns_more a t row column level p sofar lt at here i less = elim (below? i column) [
-    inl before ↦
+  | inl before ↦
       let other : i ≢ column = omega arith in
       subst (λ (q : Pot). IsCheapest a t (a.floor + i) q) (sym (get_or-set_other row column i p NoWay other)) (sofar i before)
   | inr ge ↦
       let same : column ≡ i = omega arith in
       subst (λ (j : ℕ). IsCheapest a t (a.floor + j) (slice_index_or (slice_set row column p) j NoWay)) same
       (subst (λ (q : Pot). IsCheapest a t (a.floor + column) q) (sym (get_or-set_same row column p NoWay lt))
-       (subst (λ (l : ℕ). IsCheapest a t l p) at here)) ]
+      (subst (λ (l : ℕ). IsCheapest a t l p) at here))
+]
 
 -- all columns are a row of least costs
 pub columns_all : (a : Arcs) (t : ℕ) (row : List Pot) → a.floor + length row ≡ a.capacity + 1 → AreCheapestBelow a t row (length row) → HasCheapest a t row
@@ -77,20 +78,21 @@ long_set rows t row = simp length-set
 
 row_set : (a : Arcs) (rows : List (List Pot)) (t i : ℕ) (row : List Pot) → t < length rows → t ≤ i → HasCheapest a t row → (suc t ≤ i → HasCheapest a i (slice_index_or rows i [])) → HasCheapest a i (slice_index_or (slice_set rows t row) i [])
 row_set a rows t i row lt low here later = elim (below? t i) [
-    inl after ↦
+  | inl after ↦
       let other : i ≢ t = omega arith in
       subst (λ (r : List Pot). HasCheapest a i r) (sym (get_or-set_other rows t i row [] other)) (later after)
   | inr ge ↦
       let same : t ≡ i = omega arith in
       subst (λ (j : ℕ). HasCheapest a j (slice_index_or (slice_set rows t row) j [])) same
-      (subst (λ (r : List Pot). HasCheapest a t r) (sym (get_or-set_same rows t row [] lt)) here) ]
+      (subst (λ (r : List Pot). HasCheapest a t r) (sym (get_or-set_same rows t row [] lt)) here)
+]
 
 -- one more row
 pub filled_more : (a : Arcs) (t : ℕ) (old new : List (List Pot)) → t < intervals_of a → IsFilledFrom a (t + 1) old → WritesRow a t old new → IsFilledFrom a t new
 filled_more a t old new lt filled w = subst (λ (rows : List (List Pot)). IsFilledFrom a t rows) (sym w.only) (record {
   long = long_set old t w.row ∙ filled.long;
   wide = wide_set a.floor a.capacity old t w.row filled.wide w.wide;
-  filled = λ i low high. row_set a old t i w.row (omega (arith, filled.long)) low w.cheapest (λ after. filled.filled i (omega arith) high)
+  filled = λ i low high. row_set a old t i w.row (omega (arith, filled.long)) low w.cheapest (λ after. filled.filled i (omega arith) high);
 })
 
 -- the last row
@@ -98,7 +100,7 @@ pub filled_end : (a : Arcs) (old new : List (List Pot)) → length old ≡ inter
 filled_end a old new long wide w = subst (λ (rows : List (List Pot)). IsFilledFrom a (intervals_of a) rows) (sym w.only) (record {
   long = long_set old (intervals_of a) w.row ∙ long;
   wide = wide_set a.floor a.capacity old (intervals_of a) w.row wide w.wide;
-  filled = λ i low high. row_set a old (intervals_of a) i w.row (omega arith) low w.cheapest (λ after. absurd (omega arith))
+  filled = λ i low high. row_set a old (intervals_of a) i w.row (omega arith) low w.cheapest (λ after. absurd (omega arith));
 })
 
 -- the row that the code reads

@@ -26,24 +26,27 @@ best_none f = record { least = λ m h. absurd (omega arith); there = inl refl }
 pub best_stays : (f : ℕ → Pot) (k : ℕ) (p : Pot) (place : ℕ) → IsFirstBest f k p place → AtMost p (f k) → IsFirstBest f (k + 1) p place
 best_stays f k p place best h = record {
   least = λ m lt. elim (below? m k) [
-      inl less ↦ best.least m less
-    | inr ge ↦ let same : k ≡ m = omega arith in subst (λ (i : ℕ). AtMost p (f i)) same h ];
+    | inl less ↦ best.least m less
+    | inr ge ↦ let same : k ≡ m = omega arith in subst (λ (i : ℕ). AtMost p (f i)) same h
+  ];
   there = elim best.there [
-      inl none ↦ inl none
-    | inr first ↦ inr (record { inside = omega (arith, first.inside); has = first.has; first = first.first }) ]
+    | inl none ↦ inl none
+    | inr first ↦ inr (record { inside = omega (arith, first.inside); has = first.has; first = first.first })
+  ];
 }
 
 -- the next cost is better
 pub best_moves : (f : ℕ → Pot) (k : ℕ) (p : Pot) (place : ℕ) → IsFirstBest f k p place → (AtMost p (f k) → ⊥) → IsFirstBest f (k + 1) (f k) k
 best_moves f k p place best worse = record {
   least = λ m lt. elim (below? m k) [
-      inl less ↦ AtMost-trans (f k) p (f m) (AtMost-other p (f k) worse) (best.least m less)
-    | inr ge ↦ let same : k ≡ m = omega arith in subst (λ (i : ℕ). AtMost (f k) (f i)) same (AtMost-refl (f k)) ];
+    | inl less ↦ AtMost-trans (f k) p (f m) (AtMost-other p (f k) worse) (best.least m less)
+    | inr ge ↦ let same : k ≡ m = omega arith in subst (λ (i : ℕ). AtMost (f k) (f i)) same (AtMost-refl (f k))
+  ];
   there = inr (record {
     inside = omega arith;
     has = refl;
-    first = λ m less e. worse (subst (λ (q : Pot). AtMost p q) e (best.least m less))
-  })
+    first = λ m less e. worse (subst (λ (q : Pot). AtMost p q) e (best.least m less));
+  });
 }
 
 -- what a loop over the moves reads at a number is what the move of that number costs
@@ -66,7 +69,7 @@ module _ (a : Arcs) (t level : ℕ) (costs next : List Pot) (row : AreCostsAt a 
   step_least m lt ms =
       subst (λ (c : Pot). AtMost c (way_cost a t level (m ∷ ms))) (sym (cost_by_is m lt))
       (AtMost-along (arc_cost a t m) (level_after a level m) (entry a next) (λ after. way_cost a (t + 1) after ms)
-       (λ after e. let range = level_after_in a level m after e in (after_is after range.0 range.1).least ms))
+      (λ after e. let range = level_after_in a level m after e in (after_is after range.0 range.1).least ms))
 
   -- and some way by it costs as much, or none is there
   step_reached : (p : Pot) (m : ℕ) (o : Option ℕ) → level_after a level m ≡ o → along (arc_cost a t m) o (entry a next) ≡ p → (p ≡ NoWay) ⊎ ((ms : List ℕ) × (way_cost a t level ms ≡ p))
@@ -74,35 +77,38 @@ module _ (a : Arcs) (t level : ℕ) (costs next : List Pot) (row : AreCostsAt a 
   step_reached p m (Some after) e h =
       let range = level_after_in a level m after e in
       elim (after_is after range.0 range.1).reached [
-        inl none ↦ inl (sym h ∙ ap (joined (arc_cost a t m)) none ∙ joined-NoWay (arc_cost a t m))
-      | inr way ↦ inr (m ∷ way.0, ap (λ (o : Option ℕ). along (arc_cost a t m) o (λ after. way_cost a (t + 1) after way.0)) e ∙ ap (joined (arc_cost a t m)) way.1 ∙ h) ]
+        | inl none ↦ inl (sym h ∙ ap (joined (arc_cost a t m)) none ∙ joined-NoWay (arc_cost a t m))
+        | inr way ↦ inr (m ∷ way.0, ap (λ (o : Option ℕ). along (arc_cost a t m) o (λ after. way_cost a (t + 1) after way.0)) e ∙ ap (joined (arc_cost a t m)) way.1 ∙ h)
+      ]
 
   -- the best of all moves is the least cost of all ways
   pub cheapest_step : (p : Pot) (place : ℕ) → t < intervals_of a → IsFirstBest (cost_by a costs next level) (length a.moves) p place → IsCheapest a t level p
   cheapest_step p place lt best = record {
     least = least_of;
     reached = elim best.there [
-        inl none ↦ inl none
-      | inr first ↦ step_reached p place (level_after a level place) refl (sym (cost_by_is place first.inside) ∙ first.has) ]
+      | inl none ↦ inl none
+      | inr first ↦ step_reached p place (level_after a level place) refl (sym (cost_by_is place first.inside) ∙ first.has)
+    ];
   }
     where
       least_of : (ms : List ℕ) → AtMost p (way_cost a t level ms)
       least_of [] = subst (λ (q : Pot). AtMost p q) (sym (early a t level lt)) (AtMost-NoWay p)
       least_of (m ∷ ms) = elim (below? m (length a.moves)) [
-          inl less ↦ AtMost-trans p (cost_by a costs next level m) (way_cost a t level (m ∷ ms)) (best.least m less) (step_least m less ms)
-        | inr past ↦ subst (λ (q : Pot). AtMost p q) (sym (past_no_way a t level m ms past)) (AtMost-NoWay p) ]
+        | inl less ↦ AtMost-trans p (cost_by a costs next level m) (way_cost a t level (m ∷ ms)) (best.least m less) (step_least m less ms)
+        | inr past ↦ subst (λ (q : Pot). AtMost p q) (sym (past_no_way a t level m ms past)) (AtMost-NoWay p)
+      ]
 
   -- the first of the best moves, and the first cheapest way after it, are the first cheapest way
   pub first_step : (p : Pot) (place after : ℕ) (tail : List ℕ) → t < intervals_of a → IsFirstBest (cost_by a costs next level) (length a.moves) p place → IsFirstPlace (cost_by a costs next level) (length a.moves) p place → p ≢ NoWay → level_after a level place ≡ Some after → IsFirstCheapest a (t + 1) after tail → IsFirstCheapest a t level (place ∷ tail)
   first_step p place after tail lt best place_is there e first = record {
     way = λ none. there (sym whole ∙ none);
     least = λ ms. subst (λ (q : Pot). AtMost q (way_cost a t level ms)) (sym whole) ((cheapest_step p place lt best).least ms);
-    first = first_of
+    first = first_of;
   }
     where
       c : Pot
       c = arc_cost a t place
-  
+
       after_way : (ms : List ℕ) → way_cost a t level (place ∷ ms) ≡ joined (arc_cost a t place) (way_cost a (t + 1) after ms)
       after_way ms = ap (λ (o : Option ℕ). along (arc_cost a t place) o (λ after. way_cost a (t + 1) after ms)) e
 
@@ -129,12 +135,15 @@ module _ (a : Arcs) (t level : ℕ) (costs next : List Pot) (row : AreCostsAt a 
       first_of : (ms : List ℕ) → way_cost a t level ms ≡ way_cost a t level (place ∷ tail) → IsNotAfter (place ∷ tail) ms
       first_of [] same = absurd (there (sym whole ∙ sym same ∙ early a t level lt))
       first_of (m ∷ ms) same = elim (below? m (length a.moves)) [
-          inr past ↦ absurd (there (sym whole ∙ sym same ∙ past_no_way a t level m ms past))
+        | inr past ↦ absurd (there (sym whole ∙ sym same ∙ past_no_way a t level m ms past))
         | inl less ↦ elim (below? m place) [
-              inl before ↦ absurd (place_is.first m before (best_at m ms less (same ∙ whole)))
-            | inr ge ↦ elim (below? place m) [
-                  inl before ↦ inl before
-                | inr le ↦ let at : place ≡ m = omega arith in inr (at, same_move m ms at (same ∙ whole)) ] ] ]
+          | inl before ↦ absurd (place_is.first m before (best_at m ms less (same ∙ whole)))
+          | inr ge ↦ elim (below? place m) [
+            | inl before ↦ inl before
+            | inr le ↦ let at : place ≡ m = omega arith in inr (at, same_move m ms at (same ∙ whole))
+          ]
+        ]
+      ]
 
 -- after the last interval only the list of no moves can be a way
 past_end : (a : Arcs) (t level m : ℕ) (ms : List ℕ) → IsSound a → intervals_of a ≤ t → way_cost a t level (m ∷ ms) ≡ NoWay

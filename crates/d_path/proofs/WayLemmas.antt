@@ -85,8 +85,9 @@ way_small a t level ms sound there =
 -- what is cheapest is at most 10^36 in size
 pub cheapest_within : (a : Arcs) (t level : ℕ) (p : Pot) → IsSound a → IsCheapest a t level p → IsPotWithin (10 ^ 36) p
 cheapest_within a t level p sound h = elim h.reached [
-    inl none ↦ let P : Pot → Type 0 = λ q. IsPotWithin (10 ^ 36) q in subst P (sym none) tt
-  | inr way ↦ by_way (way_cost a t level way.0) way.1 (way_small a t level way.0 sound) ]
+  | inl none ↦ let P : Pot → Type 0 = λ q. IsPotWithin (10 ^ 36) q in subst P (sym none) tt
+  | inr way ↦ by_way (way_cost a t level way.0) way.1 (way_small a t level way.0 sound)
+]
   where
     by_way : (q : Pot) → q ≡ p → (q ≢ NoWay → IsPotWithin (10 ^ 36) q) → IsPotWithin (10 ^ 36) p
     by_way q e k = let P : Pot → Type 0 = λ r. IsPotWithin (10 ^ 36) r in elim (NoWay? q) [ inl none ↦ subst P (sym none ∙ e) tt | inr there ↦ subst P e (k there) ]
@@ -97,18 +98,21 @@ cheapest_same a t level p q h k = AtMost-antisym p q (below p q h k) (below q p 
   where
     below : (p q : Pot) → IsCheapest a t level p → IsCheapest a t level q → AtMost p q
     below p q h k = elim k.reached [
-        inl none ↦ let P : Pot → Type 0 = λ r. AtMost p r in subst P (sym none) (AtMost-NoWay p)
-      | inr way ↦ let P : Pot → Type 0 = λ r. AtMost p r in subst P way.1 (h.least way.0) ]
+      | inl none ↦ let P : Pot → Type 0 = λ r. AtMost p r in subst P (sym none) (AtMost-NoWay p)
+      | inr way ↦ let P : Pot → Type 0 = λ r. AtMost p r in subst P way.1 (h.least way.0)
+    ]
 
 not_after_same : (s z : List ℕ) → IsNotAfter s z → IsNotAfter z s → s ≡ z
 not_after_same [] [] h k = refl
 not_after_same [] (y ∷ ys) h k = absurd k
 not_after_same (x ∷ xs) [] h k = absurd h
 not_after_same (x ∷ xs) (y ∷ ys) h k = elim h [
-    inl less ↦ elim k [ inl more ↦ absurd (omega arith) | inr same ↦ absurd (omega arith) ]
+  | inl less ↦ elim k [ inl more ↦ absurd (omega arith) | inr same ↦ absurd (omega arith) ]
   | inr same ↦ elim k [
-        inl more ↦ absurd (omega arith)
-      | inr again ↦ let rest : xs ≡ ys = not_after_same xs ys same.1 again.1 in cc ] ]
+    | inl more ↦ absurd (omega arith)
+    | inr again ↦ let rest : xs ≡ ys = not_after_same xs ys same.1 again.1 in cc
+  ]
+]
 
 -- two first cheapest ways are the same
 pub first_cheapest_same : (a : Arcs) (t level : ℕ) (s z : List ℕ) → IsFirstCheapest a t level s → IsFirstCheapest a t level z → s ≡ z

@@ -25,7 +25,7 @@ arcs_of ways = record {
   floor = ways.floor;
   capacity = ways.capacity;
   start = ways.start;
-  end = ways.end
+  end = ways.end;
 }
 
 -- the level after a move that begins at this level; none where the level isn't in the move's range, or where the

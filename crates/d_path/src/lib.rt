@@ -14,3 +14,6 @@ pub use first::first_cheapest;
 pub use layers::Layers;
 pub use least::backward;
 pub use ways::{Move, Ways};
+
+#[cfg(test)]
+mod tests;

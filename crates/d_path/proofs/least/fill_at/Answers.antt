@@ -43,5 +43,5 @@ returns c =
       row = c.fill_row.new.row;
       wide = subst (λ (n : ℕ). c.args.ways.now.floor + n ≡ c.args.ways.now.capacity + 1) (sym c.fill_row.auto.row) wide;
       cheapest = c.fill_row.ensures;
-      only = rows_written c.args.rows.now c.split_at_mut-before.result.0.now c.split_at_mut-before.result.1.now c.args.t (with_items had c.fill_row.new.row) c.fill_row.new.row split.value (omega (arith, split.front_len)) (with_items_is had c.fill_row.new.row long)
+      only = rows_written c.args.rows.now c.split_at_mut-before.result.0.now c.split_at_mut-before.result.1.now c.args.t (with_items had c.fill_row.new.row) c.fill_row.new.row split.value (omega (arith, split.front_len)) (with_items_is had c.fill_row.new.row long);
     }

@@ -18,11 +18,11 @@ fill_last-requires-clause-wide c = wide c
 
 pub returns : goal.returns
 returns c =
-  let had = slice_index_or c.args.rows.now (length c.args.rows.now - 1) c.index-rows-last.result in
-  let long : length c.fill_last.new.row ≡ had.len = omega (arith, c.as_mut_slice.ensures.len) in
-  record {
-  row = c.fill_last.new.row;
-  wide = subst (λ (n : ℕ). c.args.ways.now.floor + n ≡ c.args.ways.now.capacity + 1) (sym c.fill_last.auto.row) (wide (goal.at.returns c).After-as_mut_slice);
-  cheapest = c.fill_last.ensures;
-  only = row_written c.args.rows.now (intervals_of (arcs_of c.args.ways.now)) (length c.args.rows.now - 1) (with_items had c.fill_last.new.row) c.fill_last.new.row (omega arith) (with_items_is had c.fill_last.new.row long)
-}
+    let had = slice_index_or c.args.rows.now (length c.args.rows.now - 1) c.index-rows-last.result in
+    let long : length c.fill_last.new.row ≡ had.len = omega (arith, c.as_mut_slice.ensures.len) in
+    record {
+      row = c.fill_last.new.row;
+      wide = subst (λ (n : ℕ). c.args.ways.now.floor + n ≡ c.args.ways.now.capacity + 1) (sym c.fill_last.auto.row) (wide (goal.at.returns c).After-as_mut_slice);
+      cheapest = c.fill_last.ensures;
+      only = row_written c.args.rows.now (intervals_of (arcs_of c.args.ways.now)) (length c.args.rows.now - 1) (with_items had c.fill_last.new.row) c.fill_last.new.row (omega arith) (with_items_is had c.fill_last.new.row long);
+    }

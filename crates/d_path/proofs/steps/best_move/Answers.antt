@@ -15,11 +15,12 @@ loop-number-preserved c =
     let p = c.loop-number.least in
     let same : c.cost_via-cost.result ≡ f k = c.cost_via-cost.ensures ∙ read_cost a c.args.costs.now c.args.next.now c.args.level k c.index-costs-number.result _ c.loop-number-test.true c.requires.long c.index-costs-number.is in
     elim c.if-not-is_at_most.branch [
-        then-not-is_at_most w ↦
+      | then-not-is_at_most w ↦
           rw (w.least-is, w.first-is, same)
           (best_moves f k p c.loop-number.first c.loop-number.invariant
-           (λ h. let t : IsTrue false = w.if-not-is_at_most.ensures.1 (subst (λ (q : Pot). AtMost p q) (sym same) h) in cc))
+          (λ h. let t : IsTrue false = w.if-not-is_at_most.ensures.1 (subst (λ (q : Pot). AtMost p q) (sym same) h) in cc))
       | else-not-is_at_most w ↦
           rw (w.least-is, w.first-is)
           (best_stays f k p c.loop-number.first c.loop-number.invariant
-           (subst (λ (q : Pot). AtMost p q) same (c.is_at_most.ensures.0 w.if-not-is_at_most.false))) ]
+          (subst (λ (q : Pot). AtMost p q) same (c.is_at_most.ensures.0 w.if-not-is_at_most.false)))
+    ]
