@@ -1,1 +1,3 @@
 pub mod NineWords
+pub mod Blanks
+pub mod Marks

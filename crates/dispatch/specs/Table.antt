@@ -1,5 +1,5 @@
 -- A file as a table of cells, as the csv reader's contract has it.
-use Rattle.std.specs.Prelude.{◌≡◌, ℕ, Bool, ◌||◌, ◌&&◌, ◌==◌, List, [], ◌∷◌, length, map, position, bytes_eq, Option, All, slice_index_or, if◌then◌else◌}
+use Rattle.std.specs.Prelude.{◌≡◌, ℕ, Bool, ◌||◌, ◌&&◌, ◌==◌, List, [], ◌∷◌, length, map, position, bytes_eq, Option, All, slice_index, slice_index_or, ◌≤◌, if◌then◌else◌}
 use Rattle.std.specs.Str.{str_to_ascii_lowercase}
 use Rattle.csv.specs.Reading.{records, default_config, strip_bom}
 
@@ -7,6 +7,13 @@ use Rattle.csv.specs.Reading.{records, default_config, strip_bom}
 -- no header and rows of any length, reads what is left (by its contract it takes one such mark off too)
 abbrev pub records_of : List ℕ → List (List (List ℕ))
 records_of bytes = records default_config (strip_bom (strip_bom bytes))
+
+-- the bytes begin with the byte order mark of UTF-8
+pub record HasMark (bytes : List ℕ) : Type 0 where
+  pub long : 3 ≤ length bytes
+  pub first : slice_index bytes 0 ≡ 0xEF
+  pub second : slice_index bytes 1 ≡ 0xBB
+  pub third : slice_index bytes 2 ≡ 0xBF
 
 -- a space or a tab
 abbrev pub is_blank : ℕ → Bool

@@ -1,6 +1,6 @@
 //! Numbers as the files write them.
 
-ghost use Rattle.std.specs.Prelude.{◌≡◌, ℕ, ◌≤◌, ◌×◌, ℤ, pos, length, w64, FitsSigned, IfNone, IfSome};
+ghost use Rattle.std.specs.Prelude.{◌≡◌, ℕ, ◌≤◌, ℤ, pos, length, w64, FitsSigned, IfNone, IfSome};
 ghost use Rattle.std.specs.Str.Parse.{IsNumeral, digits_value};
 ghost use Rattle.dispatch.specs.Number.{IsWholeText, IsPriceText};
 

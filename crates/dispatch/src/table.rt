@@ -1,8 +1,9 @@
 //! A file as a table of cells, over the csv reader.
 
 ghost use Rattle.std.specs.Prelude.{◌≡◌, ◌≢◌, ◌↔◌, ℕ, ◌<◌, List, length, map, IsTrue, IfOk, IsErrOf};
+ghost use Rattle.std.specs.Str.{str_to_ascii_lowercase};
 ghost use Rattle.csv.specs.Reading.{strip_bom};
-ghost use Rattle.dispatch.specs.Table.{rows_of, row_at, cell_in, trimmed, is_blank, without_front, without_back, IsRectangular, IsHeader, column_of};
+ghost use Rattle.dispatch.specs.Table.{rows_of, row_at, cell_in, trimmed, HasMark, is_blank, without_front, without_back, IsRectangular, IsHeader, column_of};
 
 use crate::fault::ReadFault;
 use csv::{ByteRecord, ReaderBuilder};
@@ -69,26 +70,27 @@ impl Table {
         ensures { result.now ≡ cell_in (row_at self.now row) column }
     {
         let record = &self.rows[row];
-        behind_blanks(before_blanks(record.get(column).unwrap()))
+        before_blanks(behind_blanks(record.get(column).unwrap()))
     }
 
     /// Whether each row has as many cells as the header.
     pub fn is_rectangular(&self) -> bool
         ensures { IsTrue result ↔ IsRectangular self.now }
     {
-        if self.rows.is_empty() {
-            return true;
+        for row in 0..self.len() {
+            if self.width(row) != self.width(0) {
+                return false;
+            }
         }
-        let width = self.rows[0].len();
-        self.rows.iter().all(|row| row.len() == width)
+        true
     }
 
     /// Whether the header is exactly these names, ASCII case ignored. The names are in small letters.
     pub fn has_header(&self, names: &[&[u8]]) -> bool
         ensures { IsTrue result ↔ IsHeader (map (λ name. name.now) names.now) (row_at self.now 0) }
     {
-        if self.rows.is_empty() || self.rows[0].len() != names.len() {
-            return self.rows.is_empty() && names.is_empty();
+        if self.columns() != names.len() {
+            return false;
         }
         for column in 0..names.len() {
             if !is_named(self.cell(0, column), names[column]) {
@@ -98,14 +100,19 @@ impl Table {
         true
     }
 
+    /// The number of columns that the header has; none where there is no row.
+    pub fn columns(&self) -> usize
+        ensures count { result ≡ length (row_at self.now 0) }
+        ensures there { 0 < result → 0 < length self.now }
+    {
+        if self.len() == 0 { 0 } else { self.width(0) }
+    }
+
     /// The first column of that name, ASCII case ignored. The name is in small letters.
     pub fn column(&self, name: &[u8]) -> Option<usize>
         ensures { result ≡ column_of name.now (row_at self.now 0) }
     {
-        if self.rows.is_empty() {
-            return None;
-        }
-        for column in 0..self.rows[0].len() {
+        for column in 0..self.columns() {
             if is_named(self.cell(0, column), name) {
                 return Some(column);
             }
@@ -122,12 +129,18 @@ pub fn is_word(cell: &[u8], word: &str) -> bool
 }
 
 /// Whether the cell is the name, ASCII case ignored. The name is in small letters.
-fn is_named(cell: &[u8], name: &[u8]) -> bool {
-    cell.len() == name.len()
-        && cell
-            .iter()
-            .zip(name)
-            .all(|(byte, letter)| byte.to_ascii_lowercase() == *letter)
+fn is_named(cell: &[u8], name: &[u8]) -> bool
+    ensures { IsTrue result ↔ (str_to_ascii_lowercase cell.now ≡ name.now) }
+{
+    if cell.len() != name.len() {
+        return false;
+    }
+    for place in 0..cell.len() {
+        if cell[place].to_ascii_lowercase() != name[place] {
+            return false;
+        }
+    }
+    true
 }
 
 /// The bytes behind one byte order mark of UTF-8, or all of them where there is none.
@@ -138,7 +151,9 @@ fn behind_mark(bytes: &[u8]) -> &[u8]
 }
 
 /// Whether the bytes begin with a byte order mark of UTF-8.
-fn has_mark(bytes: &[u8]) -> bool {
+fn has_mark(bytes: &[u8]) -> bool
+    ensures { IsTrue result ↔ HasMark bytes.now }
+{
     bytes.len() >= 3 && bytes[0] == 0xEF && bytes[1] == 0xBB && bytes[2] == 0xBF
 }
 
