@@ -1,3 +1,4 @@
 pub mod NineWords
 pub mod Blanks
 pub mod Marks
+pub mod TableFacts
