@@ -27,8 +27,8 @@ last_of : (text : List ℕ) (end : ℕ) → 0 < end → end ≤ length text → 
 last_of text zero some within = absurd (omega arith)
 last_of text (suc end) some within = rw (suc-sub-one end) (take-suc text end 0 (omega arith))
   where
-  suc-sub-one : (end : ℕ) → suc end - 1 ≡ end
-  suc-sub-one end = omega arith
+    suc-sub-one : (end : ℕ) → suc end - 1 ≡ end
+    suc-sub-one end = omega arith
 
 -- one byte of the kind at the end
 without_back-append : (test : ℕ → Bool) (text : List ℕ) (byte : ℕ) → test byte ≡ true → without_back test (text ++ byte ∷ []) ≡ without_back test text
@@ -42,8 +42,8 @@ unfolding without_back
 without_back-end test [] byte other = rw other refl
 without_back-end test (x ∷ xs) byte other = rw (without_back-end test xs byte other) (long test x xs byte)
   where
-  long : (test : ℕ → Bool) (x : ℕ) (xs : List ℕ) (byte : ℕ) → cond (test x && (length (xs ++ byte ∷ []) == 0)) [] (x ∷ (xs ++ byte ∷ [])) ≡ x ∷ (xs ++ byte ∷ [])
-  long test x xs byte = grind (arith, length-append)
+    long : (test : ℕ → Bool) (x : ℕ) (xs : List ℕ) (byte : ℕ) → cond (test x && (length (xs ++ byte ∷ []) == 0)) [] (x ∷ (xs ++ byte ∷ [])) ≡ x ∷ (xs ++ byte ∷ [])
+    long test x xs byte = grind (arith, length-append)
 
 pub without_back-more : (test : ℕ → Bool) (text : List ℕ) (end : ℕ) → 0 < end → end ≤ length text → test (get_or text (end - 1) 0) ≡ true
     → without_back test (take (end - 1) text) ≡ without_back test (take end text)

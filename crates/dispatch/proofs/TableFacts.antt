@@ -53,8 +53,8 @@ pub names_are : (header : List (List ℕ)) (names : List (Bor (List ℕ))) → l
     → map str_to_ascii_lowercase header ≡ map (λ (name : Bor (List ℕ)). name.now) names
 names_are header names long same =
     ext_get_or [] (map str_to_ascii_lowercase header) (map (λ (name : Bor (List ℕ)). name.now) names) (simp length-map long)
-        (λ k within. let lt : k < length header = omega (arith, length-map header str_to_ascii_lowercase) in
-            get_or-map str_to_ascii_lowercase header k [] [] lt ∙ same k (omega arith))
+    (λ k within. let lt : k < length header = omega (arith, length-map header str_to_ascii_lowercase) in
+    get_or-map str_to_ascii_lowercase header k [] [] lt ∙ same k (omega arith))
 
 -- and the other way round
 pub name_at : (header : List (List ℕ)) (names : List (Bor (List ℕ))) (k : ℕ) → k < length names
@@ -64,4 +64,4 @@ name_at header names k within same =
     let long : length header ≡ length names = omega (arith, ap length same, length-map header str_to_ascii_lowercase, length-map names (λ (name : Bor (List ℕ)). name.now)) in
     let there : k < length header = omega arith in
     sym (get_or-map str_to_ascii_lowercase header k [] [] there) ∙ ap (λ (cells : List (List ℕ)). get_or cells k []) same
-        ∙ get_or-map (λ (name : Bor (List ℕ)). name.now) names k (record { ref_ptr = (0, 0); now = [] }) [] within
+    ∙ get_or-map (λ (name : Bor (List ℕ)). name.now) names k (record { ref_ptr = (0, 0); now = [] }) [] within

@@ -7,4 +7,5 @@ pub mod Text
 pub mod ReadingsFile
 pub mod BatteryFile
 pub mod Answer
+pub mod Replies
 pub mod Runs

@@ -1,7 +1,10 @@
 //! What a row of a battery file says.
 
-ghost use Rattle.std.specs.Prelude.{◌≡◌, ℕ, ◌<◌, length, IfNone, IfSome};
-ghost use Rattle.dispatch.specs.Table.{row_at};
+ghost use Rattle.std.specs.Prelude.{◌≡◌, ◌↔◌, ℕ, ℤ, pos, ◌<◌, length, ◌≤◌, codes, IsTrue, IfNone, IfSome};
+ghost use Rattle.dispatch.specs.Table.{row_at, cell_in};
+ghost use Rattle.dispatch.specs.BatteryFile.{IsEntry, IsLevelText, IsModeName, setting_name, setting_limit};
+ghost use Rattle.dispatch.specs.declared.entry.Entry.{Entry};
+ghost use Rattle.dispatch.specs.declared.entry.Setting.{Setting};
 
 use crate::number::read_whole;
 use crate::table::{Table, is_word};
@@ -31,6 +34,8 @@ pub enum Entry {
 /// What a row says, or None exactly where it says nothing that a row may say.
 pub fn read_entry(table: &Table, row: usize) -> Option<Entry>
     requires { row < length table.now }
+    ensures none { IfNone result ((entry : Entry) → IsEntry (row_at table.now row) entry → ⊥) }
+    ensures some { IfSome result (IsEntry (row_at table.now row)) }
 {
     if table.width(row) != 6 {
         return None;
@@ -49,6 +54,9 @@ pub fn read_entry(table: &Table, row: usize) -> Option<Entry>
 fn read_setting(table: &Table, row: usize) -> Option<Entry>
     requires row { row < length table.now }
     requires six { length (row_at table.now row) ≡ 6 }
+    requires kind { cell_in (row_at table.now row) 0 ≡ codes "set" }
+    ensures none { IfNone result ((entry : Entry) → IsEntry (row_at table.now row) entry → ⊥) }
+    ensures some { IfSome result (IsEntry (row_at table.now row)) }
 {
     let setting = setting_of(table.cell(row, 1))?;
     let value = read_whole(table.cell(row, 2))?;
@@ -59,7 +67,10 @@ fn read_setting(table: &Table, row: usize) -> Option<Entry>
 }
 
 /// The setting of that name.
-fn setting_of(name: &[u8]) -> Option<Setting> {
+fn setting_of(name: &[u8]) -> Option<Setting>
+    ensures none { IfNone result ((setting : Setting) → name.now ≡ setting_name setting → ⊥) }
+    ensures some { IfSome result (λ setting. name.now ≡ setting_name setting) }
+{
     if is_word(name, "capacity") {
         Some(Setting::Capacity)
     } else if is_word(name, "floor") {
@@ -79,7 +90,9 @@ fn setting_of(name: &[u8]) -> Option<Setting> {
 
 impl Setting {
     /// Its greatest value: a level, or energy in Wh.
-    fn limit(self) -> i64 {
+    fn limit(self) -> i64
+        ensures { result ≡ pos (setting_limit self) }
+    {
         match self {
             Setting::Capacity | Setting::Floor | Setting::Start | Setting::End => 255,
             Setting::MaxImport | Setting::MaxExport => 10_000_000_000,
@@ -91,6 +104,9 @@ impl Setting {
 fn read_mode(table: &Table, row: usize) -> Option<Entry>
     requires row { row < length table.now }
     requires six { length (row_at table.now row) ≡ 6 }
+    requires kind { cell_in (row_at table.now row) 0 ≡ codes "mode" }
+    ensures none { IfNone result ((entry : Entry) → IsEntry (row_at table.now row) entry → ⊥) }
+    ensures some { IfSome result (IsEntry (row_at table.now row)) }
 {
     let name = table.cell(row, 1);
     if !is_mode_name(name) {
@@ -118,7 +134,10 @@ fn read_mode(table: &Table, row: usize) -> Option<Entry>
 }
 
 /// The level that a cell gives; an empty one gives the level that stands for an absent one.
-fn read_level(cell: &[u8], absent: u8) -> Option<u8> {
+fn read_level(cell: &[u8], absent: u8) -> Option<u8>
+    ensures none { IfNone result ((level : ℕ) → level ≤ 255 → IsLevelText absent cell.now level → ⊥) }
+    ensures some { IfSome result (IsLevelText absent cell.now) }
+{
     if cell.is_empty() {
         return Some(absent);
     }
@@ -130,7 +149,9 @@ fn read_level(cell: &[u8], absent: u8) -> Option<u8> {
 }
 
 /// Whether these are 1 to 32 ASCII letters, digits, underscores or minuses.
-fn is_mode_name(name: &[u8]) -> bool {
+fn is_mode_name(name: &[u8]) -> bool
+    ensures { IsTrue result ↔ IsModeName name.now }
+{
     !name.is_empty()
         && name.len() <= 32
         && name.iter().all(|byte| byte.is_ascii_alphanumeric() || *byte == b'_' || *byte == b'-')

@@ -1,9 +1,10 @@
 //! The text of a plan.
 
 ghost use Rattle.std.specs.Prelude.{◌≡◌, ℕ, List, ◌++◌, ◌+◌, ◌<◌, ◌≤◌, length, IfOk, OnOk, codes};
-ghost use Rattle.d_model.specs.Shown.{inputs_of};
+ghost use Rattle.d_model.specs.Shown.{inputs_of, plain_of};
 ghost use Rattle.d_model.specs.Schedules.{IsFeasible, level_at};
 ghost use Rattle.d_model.specs.Bills.{IsFirstLeast, bill_of};
+ghost use Rattle.dispatch.specs.Replies.{IsReply};
 ghost use Rattle.dispatch.specs.Text.{line, plan_text, plan_head, schedule_lines, schedule_line};
 
 use crate::least::least_schedule;
@@ -29,7 +30,9 @@ pub fn plan(
     price: Rate,
     meter: &Meter,
     battery: &Battery,
-) -> Result<Reply, NoMemory> {
+) -> Result<Reply, NoMemory>
+    ensures { IfOk result (IsReply (plain_of price meter.now battery.now) label.now) }
+{
     let problem = Problem::plain(alloc, price, meter, battery)?;
     let mut text = Vec::new(alloc);
     let Some(schedule) = least_schedule(alloc, &problem)? else {
@@ -60,7 +63,9 @@ fn put_head(
     label: &str,
     problem: &Problem,
     bill: Money,
-) -> Result<(), NoMemory> {
+) -> Result<(), NoMemory>
+    ensures { OnOk result (text.new.items ≡ text.old.items ++ plan_head (inputs_of problem.now) label.now bill) }
+{
     let month = month_text(alloc, problem.month())?;
     let minutes = format!(in alloc; "{}", problem.minutes())?;
     let bill = money_text(alloc, bill)?;
@@ -73,7 +78,9 @@ fn put_head(
 }
 
 /// A line of a word and a value.
-fn put_line(text: &mut Vec<u8>, word: &str, value: &str) -> Result<(), NoMemory> {
+fn put_line(text: &mut Vec<u8>, word: &str, value: &str) -> Result<(), NoMemory>
+    ensures { OnOk result (text.new.items ≡ text.old.items ++ line (word.now ++ value.now)) }
+{
     text.extend_from_slice(word.as_bytes())?;
     text.extend_from_slice(value.as_bytes())?;
     text.push(b'\n')?;
@@ -86,7 +93,10 @@ fn put_schedule(
     text: &mut Vec<u8>,
     problem: &Problem,
     schedule: &[u8],
-) -> Result<(), NoMemory> {
+) -> Result<(), NoMemory>
+    requires { IsFeasible (inputs_of problem.now) schedule.now }
+    ensures { OnOk result (text.new.items ≡ text.old.items ++ schedule_lines (inputs_of problem.now) schedule.now (length (inputs_of problem.now).net)) }
+{
     let mut level = problem.battery().start as i16;
     for t in 0..problem.intervals() {
         let number = schedule[t as usize];

@@ -13,5 +13,6 @@ loop-end-preserved c = record {
 pub returns : goal.returns
 returns c =
     elim c.loop-end-test.branch [
-      then-loop-end-test+else-is_blank w ↦ without_back-stop is_blank c.args.field.now c.loop-end.end w.loop-end-test.true c.loop-end.invariant.within (cc) ∙ c.loop-end.invariant.passed
-    | else-loop-end-test w ↦ without_back-none is_blank c.args.field.now c.loop-end.end (omega arith) ∙ c.loop-end.invariant.passed ]
+      | then-loop-end-test+else-is_blank w ↦ without_back-stop is_blank c.args.field.now c.loop-end.end w.loop-end-test.true c.loop-end.invariant.within (cc) ∙ c.loop-end.invariant.passed
+      | else-loop-end-test w ↦ without_back-none is_blank c.args.field.now c.loop-end.end (omega arith) ∙ c.loop-end.invariant.passed
+    ]

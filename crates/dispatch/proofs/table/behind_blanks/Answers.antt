@@ -15,6 +15,7 @@ pub returns : goal.returns
 returns c =
     let whole = take_all (length c.args.field.now - c.loop-start.start) (drop c.loop-start.start c.args.field.now) (omega (arith, length-drop c.loop-start.start c.args.field.now)) in
     whole ∙ (
-      elim c.loop-start-test.branch [
-        then-loop-start-test+else-is_blank w ↦ sym (without_front-stop is_blank c.args.field.now c.loop-start.start w.loop-start-test.true (cc)) ∙ c.loop-start.invariant.passed
-      | else-loop-start-test w ↦ sym (without_front-end is_blank c.args.field.now c.loop-start.start w.loop-start-test.false) ∙ c.loop-start.invariant.passed ])
+    elim c.loop-start-test.branch [
+      | then-loop-start-test+else-is_blank w ↦ sym (without_front-stop is_blank c.args.field.now c.loop-start.start w.loop-start-test.true (cc)) ∙ c.loop-start.invariant.passed
+      | else-loop-start-test w ↦ sym (without_front-end is_blank c.args.field.now c.loop-start.start w.loop-start-test.false) ∙ c.loop-start.invariant.passed
+    ])

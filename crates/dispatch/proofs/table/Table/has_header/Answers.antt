@@ -6,15 +6,18 @@ use Rattle.dispatch.proofs.TableFacts.{names_are, name_at}
 use Rattle.dispatch.proofs.table.Table.has_header.Goals as goal
 
 pub returns-then-not-is_named : goal.returns-then-not-is_named
-returns-then-not-is_named c =
-    (λ (e : false ≡ true). cc,
-     λ header.
-        let same = name_at (row_at c.args.self.now 0) c.args.names.now c.loop-column.column c.loop-column-test.true header in
-        let hit = c.is_named.ensures.1 (ap str_to_ascii_lowercase c.cell.ensures ∙ same) in
-        let miss = c.if-not-is_named.true in
-        cc)
+returns-then-not-is_named c = (
+  λ (e : false ≡ true). cc,
+  λ header.
+      let same = name_at (row_at c.args.self.now 0) c.args.names.now c.loop-column.column c.loop-column-test.true header in
+      let hit = c.is_named.ensures.1 (ap str_to_ascii_lowercase c.cell.ensures ∙ same) in
+      let miss = c.if-not-is_named.true in
+      cc,
+)
 
 pub returns : goal.returns
-returns c =
-    (λ e. names_are (row_at c.args.self.now 0) c.args.names.now (omega (arith, c.columns.ensures.count, c.if-columns-names.false))
-        (λ k within. c.loop-column.invariant k (omega (arith, c.loop-column-test.false))), λ header. refl)
+returns c = (
+  λ e. names_are (row_at c.args.self.now 0) c.args.names.now (omega (arith, c.columns.ensures.count, c.if-columns-names.false))
+      (λ k within. c.loop-column.invariant k (omega (arith, c.loop-column-test.false))),
+  λ header. refl,
+)
