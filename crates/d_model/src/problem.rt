@@ -156,7 +156,7 @@ impl Problem {
                 return Err(At { interval: t });
             };
             level = step.level;
-            total += step.import.value();
+            total += step.arc.import.value();
         }
         if level < self.battery.end {
             return Err(At { interval: count });
@@ -171,7 +171,7 @@ impl Problem {
         ensures refused { IfNone result (¬ KeepsRules (inputs_of self.now) t number (pos level)) }
         ensures kept { IfSome result (λ _. KeepsRules (inputs_of self.now) t number (pos level)) }
         ensures level { IfSome result (λ step. pos step.level ≡ pos level +ℤ change_of (inputs_of self.now) number) }
-        ensures import { IfSome result (λ step. step.import ≡ import_with (inputs_of self.now) t number) }
+        ensures import { IfSome result (λ step. step.arc.import ≡ import_with (inputs_of self.now) t number) }
     {
         if number as usize >= self.battery.modes.len() {
             return None;
@@ -182,10 +182,7 @@ impl Problem {
         }
         let after = self.level_after(level, mode.change)?;
         let arc = self.arc(t, number)?;
-        Some(Step {
-            level: after,
-            import: arc.import,
-        })
+        Some(Step { level: after, arc })
     }
 
     /// The level after a change, or None exactly where the battery hasn't it.
@@ -223,7 +220,7 @@ impl Problem {
 #[derive(Clone, Copy)]
 struct Step {
     level: u8,
-    import: Wh,
+    arc: Arc,
 }
 
 /// The part of a flow that is taken: the larger of 0 and the flow.
