@@ -13,7 +13,7 @@ fn february(alloc: Global) -> Result<Meter, NoMemory>
     ensures { IfOk result (λ m. length m.net ≡ 672) }
 {
     let mut net = NetList::new(alloc);
-    for _ in 0..672 {
+    for _ in 0..672u32 {
         net.add(Wh::new(1000).unwrap())?;
     }
     Ok(Meter {
