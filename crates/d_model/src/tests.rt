@@ -2,8 +2,8 @@
 
 ghost use Rattle.std.specs.Prelude.{◌≡◌, length, IfOk};
 
-use crate::{At, Battery, Meter, Mode, ModeList, Month, Name, NetList, Problem, Tally};
-use d_num::{NoMemory, Rate, Wh};
+use crate::{Arc, At, Battery, Meter, Mode, ModeList, Month, Name, NetList, Problem, Tally};
+use d_num::{NoMemory, Rate, Watt, Wh};
 use std::alloc::Global;
 use std::process::Abort;
 use std::test::Fail;
@@ -85,9 +85,53 @@ fn bills_a_february(rt: HostRuntime) -> Result<(), Fail> {
         schedule[0] = first;
         let mut tally = Tally::new();
         match problem.walk(&schedule, &mut tally) {
-            Ok(()) => assert_eq!(rt; Ok(problem.bill(&tally).units()), want),
+            Ok(()) => {
+                assert_eq!(rt; Ok(problem.bill(&tally).units()), want);
+                assert_eq!(rt; Ok(problem.sum(&tally).units()), want);
+            }
             Err(at) => assert_eq!(rt; Err(at), want),
         }
     }
+    Ok(())
+}
+
+#[test]
+fn shows_what_it_was_made_of(rt: HostRuntime) -> Result<(), Fail> {
+    let alloc = rt.alloc();
+    let meter = february(alloc)?;
+    let battery = battery(&rt, alloc, 4, 1, 0)?;
+    let problem = Problem::plain(alloc, Rate::new(7).unwrap(), &meter, &battery)?;
+    assert_eq!(rt;
+        (
+            problem.intervals(),
+            problem.minutes(),
+            problem.price().units()
+        ),
+        (672, 60, 7)
+    );
+    assert_eq!(rt; Some(problem.month()), Month::new(2025, 2));
+    assert_eq!(rt; problem.month().days(), 28);
+    assert_eq!(rt; problem.net(0).value(), 1000);
+
+    let modes = problem.battery().modes.as_slice();
+    assert_eq!(rt; modes.len(), 2);
+    assert_eq!(rt; modes[1].name.bytes(), b"discharge".as_slice());
+    let discharge = Arc {
+        import: Wh::new(0).unwrap(),
+        export: Wh::new(2000).unwrap(),
+        power: Watt::new(0).unwrap(),
+    };
+    assert_eq!(rt; problem.arc(0, 1), Some(discharge));
+    Ok(())
+}
+
+#[test]
+fn gives_lists_back(rt: HostRuntime) -> Result<(), Fail> {
+    let alloc = rt.alloc();
+    let readings = NetList::from_vec(vec![in alloc; Wh::new(5).unwrap(); 3]?).into_vec();
+    assert_eq!(rt; readings.len(), 3);
+    let modes = ModeList::from_vec(Vec::new(alloc));
+    assert!(rt; modes.is_empty() && modes.into_vec().is_empty());
+    assert!(rt; Name::new(b"").is_none() && Name::new(&[b'a'; 65]).is_none());
     Ok(())
 }
