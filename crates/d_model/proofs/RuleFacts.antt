@@ -9,6 +9,7 @@ use Rattle.d_model.specs.Inputs.{Inputs}
 use Rattle.d_model.specs.Flows.{IsPermitted, import_of, export_of, flow_of, arc_of, permitted_arc, arc_of_flow}
 use Rattle.d_model.specs.Schedules.{KeepsRules, change_of}
 use Rattle.d_model.specs.Totals.{import_with}
+use Rattle.d_model.proofs.FlowFacts.{permitted_some}
 
 -- the rules of an interval in a given mode
 pub record KeepsWith (i : Inputs) (t : ℕ) (mode : Mode) (level : ℤ) : Type 0 where
@@ -45,6 +46,11 @@ arc_permitted i t number mode arc there e =
     let here : permitted_arc i (flow_of i t mode) ≡ Some arc = rw there at e in
     let facts = flow_permitted i (flow_of i t mode) arc here in
     (record { import = facts.0; export = facts.1.0 }, facts.1.1)
+
+-- and a permitted mode that is there has an arc
+pub arc_there : (i : Inputs) (t number : ℕ) (mode : Mode) → slice_get i.storage.modes number ≡ Some mode → IsPermitted i t mode →
+    arc_of i t number ≡ Some (arc_of_flow i.minutes (flow_of i t mode))
+arc_there i t number mode there permitted = rw there (permitted_some i (flow_of i t mode) permitted.import permitted.export)
 
 -- the change of a mode that is there
 pub change_there : (i : Inputs) (number : ℕ) (mode : Mode) → slice_get i.storage.modes number ≡ Some mode → change_of i number ≡ mode.change

@@ -38,7 +38,8 @@ arc_of_flow minutes flow = record { import = import_of flow; export = export_of 
 -- what a flow takes, sends and draws, where the battery's limits allow it
 abbrev pub permitted_arc : Inputs → ℤ → Option Arc
 permitted_arc i flow =
-    if int_le (import_of flow) i.storage.max_import && int_le (export_of flow) i.storage.max_export then Some (arc_of_flow i.minutes flow) else None
+    if int_le (import_of flow) i.storage.max_import && int_le (export_of flow) i.storage.max_export
+    then Some (arc_of_flow i.minutes flow) else None
 
 -- what an interval takes, sends and draws in the mode of this number; None where there is no such mode or it isn't permitted
 abbrev pub arc_of : Inputs → ℕ → ℕ → Option Arc

@@ -14,6 +14,8 @@ mod name;
 mod net;
 mod problem;
 mod tally;
+#[cfg(test)]
+mod tests;
 
 pub use arc::{Arc, At};
 pub use battery::Battery;

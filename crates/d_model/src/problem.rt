@@ -23,14 +23,14 @@ pub struct Problem {
 }
 
 impl Problem {
-    ghost use Rattle.std.specs.Prelude.{◌≡◌, ℕ, ◌<◌, ◌+ℤ◌, pos, length, IfOk, OnOk, OnErr, IfErr, IfNone, IfSome, slice_get};
+    ghost use Rattle.std.specs.Prelude.{◌≡◌, ℕ, List, ◌<◌, ◌+ℤ◌, pos, length, IfOk, OnOk, OnErr, IfErr, IfNone, IfSome, slice_get};
     ghost use Rattle.jiff_core.specs.Calendar.{IsBetween};
     ghost use Rattle.d_model.specs.Storage.{IsMode};
     ghost use Rattle.d_model.specs.Inputs.{IsInRange};
     ghost use Rattle.d_model.specs.Flows.{net_at, arc_of, permitted_arc};
     ghost use Rattle.d_model.specs.Schedules.{change_of, KeepsRules, IsFeasible, IsFirstBreak};
     ghost use Rattle.d_model.specs.Totals.{import_with, tally_of, IsTallyOfSome};
-    ghost use Rattle.d_model.specs.Bills.{sum_of};
+    ghost use Rattle.d_model.specs.Bills.{sum_of, bill_of};
     ghost use Rattle.d_model.specs.Shown.{storage_of, plain_of, inputs_of};
 
     /// The problem of these readings and this battery where all energy has this one price, with no sell rate, fixed charge or minimum.
@@ -143,9 +143,11 @@ impl Problem {
         ensures feasible { OnOk result (IsFeasible (inputs_of self.now) schedule.now) }
         ensures tally { OnOk result (tally.new ≡ tally_of (inputs_of self.now) schedule.now) }
         ensures counted { OnOk result (IsTallyOfSome (inputs_of self.now) tally.new) }
-        ensures refused { IfErr result (λ at. IsFirstBreak (inputs_of self.now) schedule.now at.interval) }
+        ensures refused { IfErr result
+            (λ at. IsFirstBreak (inputs_of self.now) schedule.now at.interval) }
         ensures infeasible { OnErr result (¬ IsFeasible (inputs_of self.now) schedule.now) }
-        ensures only { IfErr result (λ at. (t : ℕ) → IsFirstBreak (inputs_of self.now) schedule.now t → t ≡ at.interval) }
+        ensures only { IfErr result
+            (λ at. (t : ℕ) → IsFirstBreak (inputs_of self.now) schedule.now t → t ≡ at.interval) }
         ensures same { OnErr result (tally.new ≡ tally.old) }
     {
         let count = self.intervals();
@@ -156,7 +158,7 @@ impl Problem {
                 return Err(At { interval: t });
             };
             level = step.level;
-            total += step.import.value();
+            total += step.arc.import.value();
         }
         if level < self.battery.end {
             return Err(At { interval: count });
@@ -170,8 +172,10 @@ impl Problem {
         requires { t < length (inputs_of self.now).net }
         ensures refused { IfNone result (¬ KeepsRules (inputs_of self.now) t number (pos level)) }
         ensures kept { IfSome result (λ _. KeepsRules (inputs_of self.now) t number (pos level)) }
-        ensures level { IfSome result (λ step. pos step.level ≡ pos level +ℤ change_of (inputs_of self.now) number) }
-        ensures import { IfSome result (λ step. step.import ≡ import_with (inputs_of self.now) t number) }
+        ensures level { IfSome result
+            (λ step. pos step.level ≡ pos level +ℤ change_of (inputs_of self.now) number) }
+        ensures import { IfSome result
+            (λ step. step.arc.import ≡ import_with (inputs_of self.now) t number) }
     {
         if number as usize >= self.battery.modes.len() {
             return None;
@@ -182,18 +186,17 @@ impl Problem {
         }
         let after = self.level_after(level, mode.change)?;
         let arc = self.arc(t, number)?;
-        Some(Step {
-            level: after,
-            import: arc.import,
-        })
+        Some(Step { level: after, arc })
     }
 
     /// The level after a change, or None exactly where the battery hasn't it.
     fn level_after(&self, level: u8, change: i16) -> Option<u8>
         requires { IsWithin 255 change }
         ensures value { IfSome result (λ after. pos after ≡ pos level +ℤ change) }
-        ensures kept { IfSome result (λ after. IsBetween (pos (inputs_of self.now).storage.floor) (pos (inputs_of self.now).storage.capacity) (pos after)) }
-        ensures refused { IfNone result (¬ IsBetween (pos (inputs_of self.now).storage.floor) (pos (inputs_of self.now).storage.capacity) (pos level +ℤ change)) }
+        ensures kept { let b = (inputs_of self.now).storage in
+            IfSome result (λ after. IsBetween (pos b.floor) (pos b.capacity) (pos after)) }
+        ensures refused { let b = (inputs_of self.now).storage in
+            IfNone result (¬ IsBetween (pos b.floor) (pos b.capacity) (pos level +ℤ change)) }
     {
         let after = level as i16 + change;
         if after < self.battery.floor as i16 || after > self.battery.capacity as i16 {
@@ -213,7 +216,9 @@ impl Problem {
     /// The bill of a schedule of this tally: the sum, since there is no minimum.
     pub fn bill(&self, tally: &Tally) -> Money
         requires { IsTallyOfSome (inputs_of self.now) tally.now }
-        ensures { result ≡ sum_of (inputs_of self.now) tally.now }
+        ensures value { result ≡ sum_of (inputs_of self.now) tally.now }
+        ensures schedule { (s : List ℕ) → tally.now ≡ tally_of (inputs_of self.now) s
+            → result ≡ bill_of (inputs_of self.now) s }
     {
         self.sum(tally)
     }
@@ -223,7 +228,7 @@ impl Problem {
 #[derive(Clone, Copy)]
 struct Step {
     level: u8,
-    import: Wh,
+    arc: Arc,
 }
 
 /// The part of a flow that is taken: the larger of 0 and the flow.

@@ -1,10 +1,10 @@
-use Rattle.std.proofs.Common.{◌≡◌, ℤ, pos, ◌+ℤ◌, ◌+◌, ◌≤◌, rules, ◌<◌, to_z, of_z, w64, length, subst, sym, arith}
+use Rattle.std.proofs.Common.{◌≡◌, ℤ, pos, ◌+ℤ◌, ◌+◌, ◌≤◌, rules, ◌<◌, to_z, w64, length, subst, sym, arith}
 use Rattle.std.specs.Prelude.{slice_index}
 use Rattle.std.proofs.lemmas.Int.{ints}
 use Rattle.d_model.specs.Shown.{inputs_of}
 use Rattle.d_model.specs.Schedules.{KeepsRules}
 use Rattle.d_model.specs.Totals.{tally_of}
-use Rattle.d_model.proofs.WalkFacts.{IsWalkedTo, walked_none, walked_more, walked_whole}
+use Rattle.d_model.proofs.WalkFacts.{IsWalkedTo, walked_none, walked_more, walked_whole, import_small}
 use Rattle.d_model.proofs.problem.Problem.walk.Goals as goal
 
 pub loop-t-init : goal.loop-t-init
@@ -16,15 +16,16 @@ loop-t-preserved c =
     let s = c.args.schedule.now in
     let t = c.loop-t.t in
     let total = to_z w64 c.loop-t.total-bits in
-    let import = c.in-Some.step.import in
+    let import = c.in-Some.step.arc.import in
     let range = c.intervals-count.ensures.range in
     let there : t < length i.net = omega (arith, c.intervals-count.ensures.value, c.loop-t-test.true) in
     let keeps : KeepsRules i t (slice_index s t) (pos c.loop-t.level) = c.in-Some.ensures.kept in
     let moves = c.in-Some.ensures.level in
     let takes = c.in-Some.ensures.import in
     let so_far = c.loop-t.invariant.small in
-    let sum : to_z w64 (of_z w64 (to_z w64 c.loop-t.total-bits +ℤ to_z w64 (of_z w64 c.value-total.result))) ≡ total +ℤ import = omega (arith, ints, so_far.0, so_far.1, c.value-total.ensures.value, range.few_intervals, c.value-total.ensures.range.0, c.value-total.ensures.range.1) in
-    subst (λ (x : ℤ). IsWalkedTo i s (t + 1) c.in-Some.step.level x) (sym sum) (walked_more i s t c.loop-t.level c.in-Some.step.level total import range there c.loop-t.invariant keeps moves takes)
+    let step = walked_more i s t c.loop-t.level c.in-Some.step.level total import range there c.loop-t.invariant keeps moves takes in
+    let at_sum = λ (sum : ℤ) (e : sum ≡ total +ℤ import). subst (λ (x : ℤ). IsWalkedTo i s (t + 1) c.in-Some.step.level x) (sym e) step in
+    at_sum _ (omega (arith, ints, so_far.0, so_far.1, range.few_intervals, import_small i t (slice_index s t) range there, takes))
 
 pub returns-clause-counted : goal.returns-clause-counted
 returns-clause-counted c =
