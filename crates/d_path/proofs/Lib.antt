@@ -3,3 +3,4 @@ pub mod WayLemmas
 pub mod StepLemmas
 pub mod RowLemmas
 pub mod FirstLemmas
+pub mod LowerLemmas

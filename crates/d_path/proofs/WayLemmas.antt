@@ -17,7 +17,7 @@ within_at [] i h = tt
 within_at (x ∷ xs) zero h = h 0 NoWay (omega arith)
 within_at (x ∷ xs) (suc i) h = within_at xs i (λ k d lt. h (suc k) d (omega arith))
 
-next_level_in : (a : Arcs) (level : ℕ) (move : Move) (after : ℕ) → next_level a level move ≡ Some after → (a.floor ≤ after) × (after ≤ a.capacity)
+pub next_level_in : (a : Arcs) (level : ℕ) (move : Move) (after : ℕ) → next_level a level move ≡ Some after → (a.floor ≤ after) × (after ≤ a.capacity)
 next_level_in a level move after e = grind (arith, ints, nat_tests)
 
 after_in : (a : Arcs) (level after : ℕ) (o : Option Move) → option_and_then (next_level a level) o ≡ Some after → (a.floor ≤ after) × (after ≤ a.capacity)
