@@ -11,7 +11,8 @@ ghost use Rattle.d_path.specs.Best.{IsLowered};
 ghost use Rattle.d_path.specs.Rows.{rows_of, WritesRow};
 
 use crate::layers::Layers;
-use crate::steps::{costs_at, span_of};
+use crate::span::span_of;
+use crate::steps::costs_at;
 use crate::ways::{Move, Ways};
 use d_num::{Money, Pot};
 

@@ -1,11 +1,11 @@
 //! One move in one interval, and the best of all moves.
 
-ghost use Rattle.std.specs.Prelude.{pos, neg_ℤ, ◌≡◌, ◌+◌, ◌*◌, ◌<◌, ◌≤◌, ◌^◌, length, Some, IsTrue, ◌↔◌};
+ghost use Rattle.std.specs.Prelude.{◌≡◌, ◌+◌, ◌*◌, ◌<◌, ◌≤◌, ◌^◌, length, Some, IsTrue, ◌↔◌};
 ghost use Rattle.std.specs.List.{All};
 ghost use Rattle.d_num.specs.Pot.{IsPotWithin, AtMost};
 ghost use Rattle.d_path.specs.Arcs.{arcs_of, next_level, along, intervals_of, IsSound};
 ghost use Rattle.d_path.specs.Cheapest.{entry};
-ghost use Rattle.d_path.specs.Best.{IsFirstBest, AreCostsAt, IsSpan, cost_by};
+ghost use Rattle.d_path.specs.Best.{IsFirstBest, AreCostsAt, cost_by};
 
 use crate::ways::{Move, Ways};
 use d_num::Pot;
@@ -29,60 +29,6 @@ pub fn next_level(ways: &Ways, level: u8, step: &Move) -> Option<u8>
         return None;
     }
     Some(after as u8)
-}
-
-/// The columns from which a move can be made, and those to which it leads.
-#[derive(Drop)]
-pub struct Span {
-    pub from: usize,
-    pub to: usize,
-    pub count: usize,
-}
-
-/// From which columns of a row a move can be made that raises the level by so much.
-fn rising_span(ways: &Ways, step: &Move, rise: usize) -> Span
-    requires change { step.now.change ≡ pos rise }
-    requires small { rise < 2 ^ 16 }
-    ensures { IsSpan (arcs_of ways.now) step.now result.from result.to result.count }
-{
-    let floor = usize::from(ways.floor);
-    let lowest = usize::from(step.low).max(floor);
-    let end = (usize::from(step.high) + 1).min(
-        (usize::from(ways.capacity) + 1).saturating_sub(rise),
-    );
-    Span {
-        from: lowest - floor,
-        to: lowest - floor + rise,
-        count: end.saturating_sub(lowest),
-    }
-}
-
-/// From which columns of a row a move can be made that lowers the level by so much.
-fn falling_span(ways: &Ways, step: &Move, fall: usize) -> Span
-    requires change { step.now.change ≡ neg_ℤ (pos fall) }
-    requires small { fall < 2 ^ 16 }
-    ensures { IsSpan (arcs_of ways.now) step.now result.from result.to result.count }
-{
-    let floor = usize::from(ways.floor);
-    let lowest = usize::from(step.low).max(floor + fall);
-    let end = (usize::from(step.high) + 1).min(usize::from(ways.capacity) + 1);
-    Span {
-        from: lowest - floor,
-        to: lowest - floor - fall,
-        count: end.saturating_sub(lowest),
-    }
-}
-
-/// From which columns of a row this move can be made.
-pub fn span_of(ways: &Ways, step: &Move) -> Span
-    ensures { IsSpan (arcs_of ways.now) step.now result.from result.to result.count }
-{
-    let by = usize::from(step.change.unsigned_abs());
-    if step.change < 0 {
-        falling_span(ways, step, by)
-    } else {
-        rising_span(ways, step, by)
-    }
 }
 
 /// What the moves cost in interval t, by their numbers.
