@@ -4,3 +4,4 @@ pub mod StepLemmas
 pub mod RowLemmas
 pub mod FirstLemmas
 pub mod LowerLemmas
+pub mod ExistsLemmas

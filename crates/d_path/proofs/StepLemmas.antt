@@ -177,7 +177,7 @@ module _ (a : Arcs) (t level : ℕ) (costs next : List Pot) (row : AreCostsAt a 
       ]
 
 -- after the last interval only the list of no moves can be a way
-past_end : (a : Arcs) (t level m : ℕ) (ms : List ℕ) → IsSound a → intervals_of a ≤ t → way_cost a t level (m ∷ ms) ≡ NoWay
+pub past_end : (a : Arcs) (t level m : ℕ) (ms : List ℕ) → IsSound a → intervals_of a ≤ t → way_cost a t level (m ∷ ms) ≡ NoWay
 past_end a t level m ms sound h = ap (λ (c : Pot). along c (level_after a level m) (λ after. way_cost a (t + 1) after ms)) (arc_past a t m sound h) ∙ along-NoWay (level_after a level m) (λ after. way_cost a (t + 1) after ms)
 
 end_least : (a : Arcs) (t level : ℕ) → IsSound a → intervals_of a ≤ t → (ms : List ℕ) → AtMost (way_cost a t level []) (way_cost a t level ms)

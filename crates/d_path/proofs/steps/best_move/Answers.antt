@@ -1,4 +1,4 @@
-use Rattle.std.proofs.Common.{◌≡◌, ◌+◌, ◌∙◌, sym, subst, false, IsTrue}
+use Rattle.std.proofs.Common.{◌≡◌, ◌+◌, ◌∙◌, sym, subst, IsTrue}
 use Rattle.d_num.specs.declared.pot.Pot.{Pot}
 use Rattle.d_num.specs.Pot.{AtMost}
 use Rattle.d_path.specs.Arcs.{arcs_of}
@@ -18,7 +18,7 @@ loop-number-preserved c =
       | then-not-stays w ↦
           rw (w.least-is, w.first-is, same)
           (best_moves f k p c.loop-number.first c.loop-number.invariant
-          (λ h. let t : IsTrue false = w.if-not-stays.ensures.1 (subst (λ (q : Pot). AtMost p q) (sym same) h) in cc))
+          (λ h. let t : IsTrue c.is_at_most-stays.result = c.is_at_most-stays.ensures.1 (subst (λ (q : Pot). AtMost p q) (sym same) h) in let e = w.if-not-stays.true in cc))
       | else-not-stays w ↦
           rw (w.least-is, w.first-is)
           (best_stays f k p c.loop-number.first c.loop-number.invariant
