@@ -1,5 +1,5 @@
 -- There is a first cheapest way wherever there is a way at all.
-use Rattle.std.proofs.Common.{◌≡◌, ◌≢◌, ◌⊎◌, ◌+◌, ◌-◌, ◌≤◌, ◌<◌, ◌≤ℤ◌, ℕ, ℤ, zero, suc, List, [], ◌∷◌, length, map, inl, inr, sym, subst, ◌∙◌, refl, arith, slice_index_or}
+use Rattle.std.proofs.Common.{◌≡◌, ◌≢◌, ◌⊎◌, ◌+◌, ◌-◌, ◌≤◌, ◌<◌, ◌≤ℤ◌, ℕ, ℤ, zero, suc, List, [], ◌∷◌, length, map, inl, inr, sym, subst, refl, arith, slice_index_or}
 use Rattle.std.proofs.lemmas.Int.{ints}
 use Rattle.std.specs.List.{range_with_len}
 use Rattle.std.proofs.lemmas.List.FromFn.{get_or-map-range_with_len, length-map-range_with_len}
@@ -37,8 +37,9 @@ first_best f (suc k) = go (first_best f k)
 
     go : ((p : Pot) × (place : ℕ) × IsFirstBest f k p place) → (p : Pot) × (place : ℕ) × IsFirstBest f (suc k) p place
     go best = elim (AtMost? best.0 (f k)) [
-        inl stays ↦ (best.0, best.1, subst (λ (n : ℕ). IsFirstBest f n best.0 best.1) next (best_stays f k best.0 best.1 best.2 stays))
-      | inr worse ↦ (f k, k, subst (λ (n : ℕ). IsFirstBest f n (f k) k) next (best_moves f k best.0 best.1 best.2 worse)) ]
+      | inl stays ↦ (best.0, best.1, subst (λ (n : ℕ). IsFirstBest f n best.0 best.1) next (best_stays f k best.0 best.1 best.2 stays))
+      | inr worse ↦ (f k, k, subst (λ (n : ℕ). IsFirstBest f n (f k) k) next (best_moves f k best.0 best.1 best.2 worse))
+    ]
 
 -- the least cost, by what is known of the ways
 least_of : (a : Arcs) (t level : ℕ) → NoneOrFirst a t level → (p : Pot) × IsCheapest a t level p
@@ -70,7 +71,7 @@ module _ (a : Arcs) (t : ℕ) (known : (level : ℕ) → a.floor ≤ level → l
       let column : ℕ = level - a.floor in
       let at : a.floor + (level - a.floor) ≡ level = omega arith in
       let read : slice_index_or row_of (level - a.floor) NoWay ≡ column_of (level - a.floor) (in_row? (level - a.floor)) =
-          get_or-map-range_with_len (λ column. column_of column (in_row? column)) 0 (a.capacity + 1 - a.floor) (level - a.floor) (level - a.floor) NoWay (omega arith) (omega arith) in
+      get_or-map-range_with_len (λ column. column_of column (in_row? column)) 0 (a.capacity + 1 - a.floor) (level - a.floor) (level - a.floor) NoWay (omega arith) (omega arith) in
       subst (λ (l : ℕ). IsCheapest a t l (slice_index_or row_of (level - a.floor) NoWay)) at
       (subst (λ (p : Pot). IsCheapest a t (a.floor + (level - a.floor)) p) (sym read) (column_cheapest (level - a.floor) (in_row? (level - a.floor)) (omega arith)))
 
@@ -81,7 +82,7 @@ costs_of a t = map (arc_cost a t) (range_with_len 0 (length a.moves))
 costs_are : (a : Arcs) (t : ℕ) → AreCostsAt a t (costs_of a t)
 costs_are a t = record {
   long = length-map-range_with_len (arc_cost a t) 0 (length a.moves);
-  same = λ m lt. get_or-map-range_with_len (arc_cost a t) 0 (length a.moves) m m NoWay lt (omega arith)
+  same = λ m lt. get_or-map-range_with_len (arc_cost a t) 0 (length a.moves) m m NoWay lt (omega arith);
 }
 
 by_best : (a : Arcs) (t level : ℕ) → t < intervals_of a → ((after : ℕ) → a.floor ≤ after → after ≤ a.capacity → NoneOrFirst a (t + 1) after) → (next : List Pot) → HasCheapest a (t + 1) next → NoneOrFirst a t level
@@ -99,8 +100,9 @@ by_best a t level lt known next after_is = go (first_best (cost_by a (costs_of a
         let range = level_after_in a level place made.0 made.1 in
         let way = cheapest_there a (t + 1) made.0 (entry a next made.0) (after_is made.0 range.0 range.1) move.there in
         elim (known made.0 range.0 range.1) [
-            inl none ↦ absurd (way.1 (none way.0))
-          | inr first ↦ inr (place ∷ first.0, move.begins first.0 first.1) ]
+          | inl none ↦ absurd (way.1 (none way.0))
+          | inr first ↦ inr (place ∷ first.0, move.begins first.0 first.1)
+        ]
 
     go : ((p : Pot) × (place : ℕ) × IsFirstBest (cost_by a (costs_of a t) next level) (length a.moves) p place) → NoneOrFirst a t level
     go best = elim (NoWay? best.0) [ inl none ↦ inl (none_of best.0 best.1 best.2 none) | inr there ↦ first_of best.0 best.1 best.2 there ]

@@ -1,17 +1,16 @@
 -- One step of the induction over intervals: the least cost before a move from the least costs after it.
-use Rattle.std.proofs.Common.{◌≡◌, ◌≢◌, ◌⊎◌, ◌+◌, ◌*◌, ◌≤◌, ◌<◌, ℕ, pos, zero, suc, List, [], ◌∷◌, length, Option, Some, None, cond, inl, inr, ap, sym, subst, ◌∙◌, refl, arith, slice_index_or, slice_get, option_and_then, ◌==◌, ◌&&◌, nat_le}
-use Rattle.std.proofs.lemmas.Bool.Decides.{nat_tests}
+use Rattle.std.proofs.Common.{◌≡◌, ◌≢◌, ◌⊎◌, ◌+◌, ◌≤◌, ◌<◌, ℕ, zero, suc, List, [], ◌∷◌, length, Option, Some, None, inl, inr, ap, sym, subst, ◌∙◌, refl, arith, slice_index_or, option_and_then}
 use Rattle.std.proofs.lemmas.List.{get_or_default}
 use Rattle.std.proofs.lemmas.Option.{slice_get-get_or}
 use Rattle.d_num.specs.declared.pot.Pot.{Pot}
-use Rattle.d_num.specs.declared.pot.Pot.TheVariants.{To, NoWay}
+use Rattle.d_num.specs.declared.pot.Pot.TheVariants.{NoWay}
 use Rattle.d_num.specs.Pot.{AtMost, joined}
 use Rattle.d_path.specs.declared.ways.Move.{Move}
 use Rattle.d_path.specs.Arcs.{Arcs, next_level, level_after, arc_cost, intervals_of, along, way_cost, IsSound}
 use Rattle.d_path.specs.Cheapest.{IsCheapest, IsNotAfter, IsFirstCheapest, entry, HasCheapest}
 use Rattle.d_path.specs.Best.{IsFirstPlace, IsFirstBest, IsLeastOf, IsLesser, AreCostsAt, cost_by}
 use Rattle.d_path.proofs.CostLemmas.{AtMost-refl, AtMost-trans, AtMost-antisym, AtMost-other, AtMost-NoWay, AtMost-along, joined-NoWay, joined_cancel, along-NoWay}
-use Rattle.d_path.proofs.WayLemmas.{level_after_in, level_after_past, early, arc_past, way_length, cheapest_same, first_is_cheapest}
+use Rattle.d_path.proofs.WayLemmas.{level_after_in, level_after_past, early, arc_past, cheapest_same, first_is_cheapest}
 
 pub below? : (m k : ℕ) → (m < k) ⊎ (k ≤ m)
 below? m zero = inr (omega arith)

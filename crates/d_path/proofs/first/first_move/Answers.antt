@@ -1,7 +1,7 @@
-use Rattle.std.proofs.Common.{◌≡◌, ◌≢◌, ◌+◌, ◌<◌, ◌∙◌, length, refl, sym, subst, arith, slice_index_or, Option, Some, ℕ}
+use Rattle.std.proofs.Common.{◌≢◌, ◌+◌, ◌<◌, ◌∙◌, length, refl, sym, subst, arith, Option, ℕ}
 use Rattle.std.specs.Option.{IsSome}
 use Rattle.d_num.specs.declared.pot.Pot.TheVariants.{NoWay}
-use Rattle.d_path.specs.Arcs.{arcs_of, level_after}
+use Rattle.d_path.specs.Arcs.{arcs_of}
 use Rattle.d_path.specs.Best.{IsFirstPlace, cost_by}
 use Rattle.d_path.proofs.StepLemmas.{cheapest_step, best_is_least}
 use Rattle.d_path.proofs.RowLemmas.{row_within}

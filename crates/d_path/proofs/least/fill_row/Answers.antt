@@ -1,9 +1,9 @@
-use Rattle.std.proofs.Common.{◌≡◌, ◌+◌, pos, arith}
-use Rattle.d_num.specs.declared.pot.Pot.TheVariants.{To, NoWay}
+use Rattle.std.proofs.Common.{◌+◌, pos, arith}
+use Rattle.d_num.specs.declared.pot.Pot.TheVariants.{To}
 use Rattle.d_path.specs.declared.ways.Move.{Move}
 use Rattle.d_path.specs.Arcs.{arcs_of}
 use Rattle.d_path.proofs.RowLemmas.{row_within}
-use Rattle.d_path.proofs.LowerLemmas.{AreLeastOf, least_lowered, least_skipped, least_all}
+use Rattle.d_path.proofs.LowerLemmas.{least_lowered, least_skipped, least_all}
 use Rattle.d_path.proofs.least.fill_row.Goals as goal
 use Rattle.d_path.proofs.least.fill_row.Goals.{in-To, in_default}
 

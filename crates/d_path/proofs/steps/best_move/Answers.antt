@@ -1,8 +1,8 @@
-use Rattle.std.proofs.Common.{◌≡◌, ◌+◌, ◌∙◌, sym, subst, IsTrue}
+use Rattle.std.proofs.Common.{◌≡◌, ◌∙◌, sym, subst, IsTrue}
 use Rattle.d_num.specs.declared.pot.Pot.{Pot}
 use Rattle.d_num.specs.Pot.{AtMost}
 use Rattle.d_path.specs.Arcs.{arcs_of}
-use Rattle.d_path.specs.Best.{IsFirstBest, cost_by}
+use Rattle.d_path.specs.Best.{cost_by}
 use Rattle.d_path.proofs.StepLemmas.{read_cost, best_stays, best_moves}
 use Rattle.d_path.proofs.steps.best_move.Goals as goal
 use Rattle.d_path.proofs.steps.best_move.Goals.{then-not-stays, else-not-stays}
