@@ -5,3 +5,4 @@ pub mod RowLemmas
 pub mod FirstLemmas
 pub mod LowerLemmas
 pub mod ExistsLemmas
+pub mod Potentials
