@@ -1,9 +1,8 @@
 -- The order of costs, and sums of them.
-use Rattle.std.proofs.Common.{◌≡◌, ◌≢◌, ◌⊎◌, ◌+◌, ◌≤◌, ℕ, ℤ, pos, Option, Some, None, inl, inr, ap, refl, arith, ◌+ℤ◌, ◌≤ℤ◌}
+use Rattle.std.proofs.Common.{◌≡◌, ◌≢◌, ◌⊎◌, ◌+◌, ◌≤◌, ℕ, ℤ, Option, Some, None, inl, inr, ap, refl, arith, ◌+ℤ◌, ◌≤ℤ◌}
 use Rattle.std.proofs.lemmas.Int.{ints}
 use Rattle.d_num.specs.declared.pot.Pot.{Pot}
 use Rattle.d_num.specs.declared.pot.Pot.TheVariants.{To, NoWay}
-use Rattle.d_num.specs.Amount.{IsWithin}
 use Rattle.d_num.specs.Pot.{AtMost, joined, IsPotWithin}
 use Rattle.d_path.specs.Arcs.{along}
 

@@ -1,5 +1,5 @@
 -- The first cheapest way, walked from the start.
-use Rattle.std.proofs.Common.{◌≡◌, ◌≢◌, ◌⊎◌, ◌+◌, ◌≤◌, ◌<◌, ◌++◌, ℕ, List, [], ◌∷◌, length, take, Option, Some, inl, inr, ap, sym, subst, ◌∙◌, refl, arith, append_assoc, slice_index_or, slice_set, slice_get, option_and_then}
+use Rattle.std.proofs.Common.{◌≡◌, ◌≢◌, ◌+◌, ◌≤◌, ◌<◌, ◌++◌, ℕ, List, [], ◌∷◌, length, take, Option, Some, inl, inr, ap, sym, subst, ◌∙◌, arith, append_assoc, slice_index_or, slice_set, option_and_then}
 use Rattle.std.proofs.lemmas.List.{append-nil, take_all, take_more_set}
 use Rattle.std.proofs.lemmas.Option.{slice_get-get_or}
 use Rattle.d_num.specs.declared.pot.Pot.{Pot}

@@ -1,17 +1,16 @@
 -- One step of the induction over intervals: the least cost before a move from the least costs after it.
-use Rattle.std.proofs.Common.{◌≡◌, ◌≢◌, ◌⊎◌, ◌+◌, ◌*◌, ◌≤◌, ◌<◌, ℕ, pos, zero, suc, List, [], ◌∷◌, length, Option, Some, None, cond, inl, inr, ap, sym, subst, ◌∙◌, refl, arith, slice_index_or, slice_get, option_and_then, ◌==◌, ◌&&◌, nat_le}
-use Rattle.std.proofs.lemmas.Bool.Decides.{nat_tests}
+use Rattle.std.proofs.Common.{◌≡◌, ◌≢◌, ◌⊎◌, ◌+◌, ◌≤◌, ◌<◌, ℕ, zero, suc, List, [], ◌∷◌, length, Option, Some, None, inl, inr, ap, sym, subst, ◌∙◌, refl, arith, slice_index_or, option_and_then}
 use Rattle.std.proofs.lemmas.List.{get_or_default}
 use Rattle.std.proofs.lemmas.Option.{slice_get-get_or}
 use Rattle.d_num.specs.declared.pot.Pot.{Pot}
-use Rattle.d_num.specs.declared.pot.Pot.TheVariants.{To, NoWay}
+use Rattle.d_num.specs.declared.pot.Pot.TheVariants.{NoWay}
 use Rattle.d_num.specs.Pot.{AtMost, joined}
 use Rattle.d_path.specs.declared.ways.Move.{Move}
 use Rattle.d_path.specs.Arcs.{Arcs, next_level, level_after, arc_cost, intervals_of, along, way_cost, IsSound}
 use Rattle.d_path.specs.Cheapest.{IsCheapest, IsNotAfter, IsFirstCheapest, entry, HasCheapest}
-use Rattle.d_path.specs.Best.{IsFirstPlace, IsFirstBest, AreCostsAt, cost_by}
+use Rattle.d_path.specs.Best.{IsFirstPlace, IsFirstBest, IsLeastOf, IsLesser, AreCostsAt, cost_by}
 use Rattle.d_path.proofs.CostLemmas.{AtMost-refl, AtMost-trans, AtMost-antisym, AtMost-other, AtMost-NoWay, AtMost-along, joined-NoWay, joined_cancel, along-NoWay}
-use Rattle.d_path.proofs.WayLemmas.{level_after_in, level_after_past, early, arc_past, way_length, cheapest_same, first_is_cheapest}
+use Rattle.d_path.proofs.WayLemmas.{level_after_in, level_after_past, early, arc_past, cheapest_same, first_is_cheapest}
 
 pub below? : (m k : ℕ) → (m < k) ⊎ (k ≤ m)
 below? m zero = inr (omega arith)
@@ -21,6 +20,37 @@ below? (suc m) (suc k) = elim (below? m k) [ inl lt ↦ inl (omega arith) | inr 
 -- nothing is best of no costs but no way
 pub best_none : (f : ℕ → Pot) → IsFirstBest f 0 NoWay 0
 best_none f = record { least = λ m h. absurd (omega arith); there = inl refl }
+
+-- the best of all has the least of all
+pub best_is_least : (f : ℕ → Pot) (k : ℕ) (p : Pot) (place : ℕ) → IsFirstBest f k p place → IsLeastOf f k p
+best_is_least f k p place best = record {
+  least = best.least;
+  reached = elim best.there [ inl none ↦ inl none | inr first ↦ inr (place, first.inside, first.has) ];
+}
+
+-- no way is the least of no costs
+pub least_none : (f : ℕ → Pot) → IsLeastOf f 0 NoWay
+least_none f = record { least = λ m h. absurd (omega arith); reached = inl refl }
+
+-- one more cost
+pub least_more : (f : ℕ → Pot) (k : ℕ) (p q r : Pot) → IsLeastOf f k p → q ≡ f k → IsLesser p q r → IsLeastOf f (k + 1) r
+least_more f k p q r before here lesser = record {
+  least = λ m lt. elim (below? m k) [
+    | inl less ↦ AtMost-trans r p (f m) lesser.below_first (before.least m less)
+    | inr ge ↦ let same : k ≡ m = omega arith in subst (λ (c : Pot). AtMost r c) (here ∙ ap f same) lesser.below_second
+  ];
+  reached = elim lesser.one_of_both [
+    | inl old ↦ elim before.reached [
+      | inl none ↦ inl (old ∙ none)
+      | inr place ↦ inr (place.0, omega (arith, place.1), place.2 ∙ sym old)
+    ]
+    | inr new ↦ inr (k, omega arith, sym here ∙ sym new)
+  ];
+}
+
+-- nothing changes where the other cost is no way
+pub lesser_stays : (p : Pot) → IsLesser p NoWay p
+lesser_stays p = record { one_of_both = inl refl; below_first = AtMost-refl p; below_second = AtMost-NoWay p }
 
 -- the next cost is no better
 pub best_stays : (f : ℕ → Pot) (k : ℕ) (p : Pot) (place : ℕ) → IsFirstBest f k p place → AtMost p (f k) → IsFirstBest f (k + 1) p place
@@ -81,13 +111,13 @@ module _ (a : Arcs) (t level : ℕ) (costs next : List Pot) (row : AreCostsAt a 
         | inr way ↦ inr (m ∷ way.0, ap (λ (o : Option ℕ). along (arc_cost a t m) o (λ after. way_cost a (t + 1) after way.0)) e ∙ ap (joined (arc_cost a t m)) way.1 ∙ h)
       ]
 
-  -- the best of all moves is the least cost of all ways
-  pub cheapest_step : (p : Pot) (place : ℕ) → t < intervals_of a → IsFirstBest (cost_by a costs next level) (length a.moves) p place → IsCheapest a t level p
-  cheapest_step p place lt best = record {
+  -- the least over all moves is the least cost of all ways
+  pub cheapest_step : (p : Pot) → t < intervals_of a → IsLeastOf (cost_by a costs next level) (length a.moves) p → IsCheapest a t level p
+  cheapest_step p lt best = record {
     least = least_of;
-    reached = elim best.there [
+    reached = elim best.reached [
       | inl none ↦ inl none
-      | inr first ↦ step_reached p place (level_after a level place) refl (sym (cost_by_is place first.inside) ∙ first.has)
+      | inr place ↦ step_reached p place.0 (level_after a level place.0) refl (sym (cost_by_is place.0 place.1) ∙ place.2)
     ];
   }
     where
@@ -102,7 +132,7 @@ module _ (a : Arcs) (t level : ℕ) (costs next : List Pot) (row : AreCostsAt a 
   pub first_step : (p : Pot) (place after : ℕ) (tail : List ℕ) → t < intervals_of a → IsFirstBest (cost_by a costs next level) (length a.moves) p place → IsFirstPlace (cost_by a costs next level) (length a.moves) p place → p ≢ NoWay → level_after a level place ≡ Some after → IsFirstCheapest a (t + 1) after tail → IsFirstCheapest a t level (place ∷ tail)
   first_step p place after tail lt best place_is there e first = record {
     way = λ none. there (sym whole ∙ none);
-    least = λ ms. subst (λ (q : Pot). AtMost q (way_cost a t level ms)) (sym whole) ((cheapest_step p place lt best).least ms);
+    least = λ ms. subst (λ (q : Pot). AtMost q (way_cost a t level ms)) (sym whole) ((cheapest_step p lt (best_is_least (cost_by a costs next level) (length a.moves) p place best)).least ms);
     first = first_of;
   }
     where
@@ -146,7 +176,7 @@ module _ (a : Arcs) (t level : ℕ) (costs next : List Pot) (row : AreCostsAt a 
       ]
 
 -- after the last interval only the list of no moves can be a way
-past_end : (a : Arcs) (t level m : ℕ) (ms : List ℕ) → IsSound a → intervals_of a ≤ t → way_cost a t level (m ∷ ms) ≡ NoWay
+pub past_end : (a : Arcs) (t level m : ℕ) (ms : List ℕ) → IsSound a → intervals_of a ≤ t → way_cost a t level (m ∷ ms) ≡ NoWay
 past_end a t level m ms sound h = ap (λ (c : Pot). along c (level_after a level m) (λ after. way_cost a (t + 1) after ms)) (arc_past a t m sound h) ∙ along-NoWay (level_after a level m) (λ after. way_cost a (t + 1) after ms)
 
 end_least : (a : Arcs) (t level : ℕ) → IsSound a → intervals_of a ≤ t → (ms : List ℕ) → AtMost (way_cost a t level []) (way_cost a t level ms)

@@ -1,23 +1,23 @@
 -- Ways: where their steps lead, how long they are, and how much they can cost.
-use Rattle.std.proofs.Common.{◌≡◌, ◌≢◌, zero, suc, subst, ◌==◌, ◌&&◌, nat_le, ◌⊎◌, ◌+◌, ◌*◌, ◌^◌, ◌≤◌, ◌<◌, ℕ, ℤ, pos, List, [], ◌∷◌, length, Option, Some, None, Bool, true, false, cond, inl, inr, ap, sym, ◌∙◌, refl, arith, slice_get, slice_index_or, option_and_then, get_or}
+use Rattle.std.proofs.Common.{◌≡◌, ◌≢◌, zero, suc, subst, ◌==◌, ◌&&◌, nat_le, ◌+◌, ◌*◌, ◌^◌, ◌≤◌, ◌<◌, ℕ, pos, List, [], ◌∷◌, length, Option, Some, None, true, false, cond, inl, inr, sym, ◌∙◌, refl, arith, slice_get, slice_index_or, option_and_then}
 use Rattle.std.specs.List.{All}
 use Rattle.std.proofs.lemmas.List.{get_or_past}
 use Rattle.std.proofs.lemmas.Int.{ints}
 use Rattle.std.proofs.lemmas.Bool.Decides.{nat_tests}
 use Rattle.d_num.specs.declared.pot.Pot.{Pot}
 use Rattle.d_num.specs.declared.pot.Pot.TheVariants.{To, NoWay}
-use Rattle.d_num.specs.Pot.{AtMost, joined, IsPotWithin}
+use Rattle.d_num.specs.Pot.{AtMost, IsPotWithin}
 use Rattle.d_path.specs.declared.ways.Move.{Move}
-use Rattle.d_path.specs.Arcs.{Arcs, next_level, level_after, arc_cost, intervals_of, along, way_cost, IsSound}
-use Rattle.d_path.specs.Cheapest.{IsCheapest, IsNotAfter, IsFirstCheapest, entry, HasCheapest}
-use Rattle.d_path.proofs.CostLemmas.{AtMost-refl, AtMost-trans, AtMost-antisym, AtMost-NoWay, along_there, along_within, within_more, NoWay?}
+use Rattle.d_path.specs.Arcs.{Arcs, next_level, level_after, arc_cost, intervals_of, way_cost, IsSound}
+use Rattle.d_path.specs.Cheapest.{IsCheapest, IsNotAfter, IsFirstCheapest}
+use Rattle.d_path.proofs.CostLemmas.{AtMost-antisym, AtMost-NoWay, along_there, along_within, within_more, NoWay?}
 
 within_at : (costs : List Pot) (i : ℕ) → All (IsPotWithin (10 ^ 32)) costs → IsPotWithin (10 ^ 32) (slice_index_or costs i NoWay)
 within_at [] i h = tt
 within_at (x ∷ xs) zero h = h 0 NoWay (omega arith)
 within_at (x ∷ xs) (suc i) h = within_at xs i (λ k d lt. h (suc k) d (omega arith))
 
-next_level_in : (a : Arcs) (level : ℕ) (move : Move) (after : ℕ) → next_level a level move ≡ Some after → (a.floor ≤ after) × (after ≤ a.capacity)
+pub next_level_in : (a : Arcs) (level : ℕ) (move : Move) (after : ℕ) → next_level a level move ≡ Some after → (a.floor ≤ after) × (after ≤ a.capacity)
 next_level_in a level move after e = grind (arith, ints, nat_tests)
 
 after_in : (a : Arcs) (level after : ℕ) (o : Option Move) → option_and_then (next_level a level) o ≡ Some after → (a.floor ≤ after) × (after ≤ a.capacity)

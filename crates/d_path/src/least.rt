@@ -1,14 +1,35 @@
 //! The least costs, layer by layer from the month's end.
 
-ghost use Rattle.std.specs.Prelude.{◌≡◌, ◌+◌, ◌<◌, [], length, slice_index_or};
+ghost use Rattle.std.specs.Prelude.{◌≡◌, ◌+◌, ◌<◌, ◌≤◌, ◌^◌, [], length, slice_index_or};
+ghost use Rattle.std.specs.List.{All};
+ghost use Rattle.d_num.specs.Amount.{IsWithin};
+ghost use Rattle.d_num.specs.Pot.{IsPotWithin};
+ghost use Rattle.d_num.specs.declared.pot.Pot.TheVariants.{To};
 ghost use Rattle.d_path.specs.Arcs.{arcs_of, intervals_of, IsSound};
 ghost use Rattle.d_path.specs.Cheapest.{HasCheapest, AllCheapest, IsWide};
+ghost use Rattle.d_path.specs.Best.{IsLowered};
 ghost use Rattle.d_path.specs.Rows.{rows_of, WritesRow};
 
 use crate::layers::Layers;
-use crate::steps::{best_move, costs_at};
-use crate::ways::Ways;
+use crate::span::span_of;
+use crate::steps::costs_at;
+use crate::ways::{Move, Ways};
 use d_num::{Money, Pot};
+
+/// Lowers each entry of this row to the cost by a move, where that is less; the next row has what it costs after it.
+fn lower_row(ways: &Ways, step: &Move, cost: Money, row: &mut [Pot], next: &[Pot])
+    requires cost { IsWithin (10 ^ 32) cost }
+    requires wide { ways.now.floor + length row.old ≡ ways.now.capacity + 1 }
+    requires next_wide { ways.now.floor + length next.now ≡ ways.now.capacity + 1 }
+    requires next_within { All (IsPotWithin (10 ^ 36)) next.now }
+    ensures { IsLowered (arcs_of ways.now) step.now (To cost) next.now row.old row.new }
+{
+    let span = span_of(ways, step);
+    for i in 0..span.count {
+        let by_move = next[span.to + i].plus(cost);
+        row[span.from + i] = row[span.from + i].least(by_move);
+    }
+}
 
 /// Makes each entry of this row the least cost from its level at interval t, where the next row has those at the interval after it.
 fn fill_row(ways: &Ways, t: usize, row: &mut [Pot], next: &[Pot])
@@ -19,10 +40,12 @@ fn fill_row(ways: &Ways, t: usize, row: &mut [Pot], next: &[Pot])
     requires next_cheapest { HasCheapest (arcs_of ways.now) (t + 1) next.now }
     ensures { HasCheapest (arcs_of ways.now) t row.new }
 {
+    row.fill(Pot::NoWay);
     let costs = costs_at(ways, t);
-    for (column, entry) in row.iter_mut().enumerate() {
-        let level = ways.floor + column as u8;
-        *entry = best_move(ways, costs, level, next).cost;
+    for (number, step) in ways.moves.iter().enumerate() {
+        if let Pot::To(cost) = costs[number] {
+            lower_row(ways, step, cost, row, next);
+        }
     }
 }
 

@@ -7,6 +7,7 @@
 mod first;
 mod layers;
 mod least;
+mod span;
 mod steps;
 mod ways;
 

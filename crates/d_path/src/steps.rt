@@ -81,7 +81,8 @@ pub fn best_move(ways: &Ways, costs: &[Pot], level: u8, next: &[Pot]) -> Best
     let mut first = 0;
     for (number, step) in ways.moves.iter().enumerate() {
         let cost = cost_via(ways, costs[number], level, step, next);
-        if !is_at_most(&least, &cost) {
+        let stays = is_at_most(&least, &cost);
+        if !stays {
             least = cost;
             first = number;
         }

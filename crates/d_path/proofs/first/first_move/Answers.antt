@@ -1,9 +1,9 @@
-use Rattle.std.proofs.Common.{◌≡◌, ◌≢◌, ◌+◌, ◌<◌, ◌∙◌, length, refl, sym, subst, arith, slice_index_or, Option, Some, ℕ}
+use Rattle.std.proofs.Common.{◌≢◌, ◌+◌, ◌<◌, ◌∙◌, length, refl, sym, subst, arith, Option, ℕ}
 use Rattle.std.specs.Option.{IsSome}
 use Rattle.d_num.specs.declared.pot.Pot.TheVariants.{NoWay}
-use Rattle.d_path.specs.Arcs.{arcs_of, level_after}
+use Rattle.d_path.specs.Arcs.{arcs_of}
 use Rattle.d_path.specs.Best.{IsFirstPlace, cost_by}
-use Rattle.d_path.proofs.StepLemmas.{cheapest_step}
+use Rattle.d_path.proofs.StepLemmas.{cheapest_step, best_is_least}
 use Rattle.d_path.proofs.RowLemmas.{row_within}
 use Rattle.d_path.proofs.FirstLemmas.{way_there, place_of, step_read, move_made, first_move_is}
 use Rattle.d_path.proofs.first.first_move.Goals as goal
@@ -13,7 +13,8 @@ there : (c : After-best_move-number) → c.best_move-number.result.cost ≢ NoWa
 there c =
     let a = arcs_of c.args.ways.now in
     way_there a c.args.t c.args.level c.best_move-number.result.cost c.requires.there
-    (cheapest_step a c.args.t c.args.level c.costs_at-costs.result.now c.args.next.now c.costs_at-costs.ensures.costs c.requires.next_cheapest c.best_move-number.result.cost c.best_move-number.result.number c.requires.inside c.best_move-number.ensures)
+    (cheapest_step a c.args.t c.args.level c.costs_at-costs.result.now c.args.next.now c.costs_at-costs.ensures.costs c.requires.next_cheapest c.best_move-number.result.cost c.requires.inside
+    (best_is_least (cost_by a c.costs_at-costs.result.now c.args.next.now c.args.level) (length c.args.ways.now.moves.now) c.best_move-number.result.cost c.best_move-number.result.number c.best_move-number.ensures))
 
 place : (c : After-best_move-number) → IsFirstPlace (cost_by (arcs_of c.args.ways.now) c.costs_at-costs.result.now c.args.next.now c.args.level) (length c.args.ways.now.moves.now) c.best_move-number.result.cost c.best_move-number.result.number
 place c = place_of (cost_by (arcs_of c.args.ways.now) c.costs_at-costs.result.now c.args.next.now c.args.level) (length c.args.ways.now.moves.now) c.best_move-number.result.cost c.best_move-number.result.number c.best_move-number.ensures (there c)

@@ -1,10 +1,10 @@
-use Rattle.std.proofs.Common.{◌≡◌, ◌+◌, ◌<◌, ◌∙◌, [], length, ap, sym, subst, arith, refl, slice_index_or, List, ℕ}
+use Rattle.std.proofs.Common.{◌≡◌, ◌+◌, ◌∙◌, [], length, ap, sym, subst, arith, refl, slice_index_or, List, ℕ}
 use Rattle.std.proofs.lemmas.List.{with_items_is}
 use Rattle.std.specs.Vec.{with_items}
 use Rattle.d_num.specs.declared.pot.Pot.{Pot}
 use Rattle.d_path.specs.Arcs.{arcs_of}
 use Rattle.d_path.specs.Cheapest.{HasCheapest}
-use Rattle.d_path.specs.Rows.{rows_of, WritesRow}
+use Rattle.d_path.specs.Rows.{rows_of}
 use Rattle.d_path.proofs.RowLemmas.{row_is, row_fits, rows_written}
 use Rattle.d_path.proofs.least.fill_at.Goals as goal
 use Rattle.d_path.proofs.least.fill_at.Goals.{After-as_slice}

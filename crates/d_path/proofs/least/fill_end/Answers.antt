@@ -1,8 +1,7 @@
-use Rattle.std.proofs.Common.{◌≡◌, ◌+◌, ◌-◌, ◌<◌, [], length, sym, subst, arith, slice_index_or, ℕ}
+use Rattle.std.proofs.Common.{◌≡◌, ◌+◌, ◌-◌, length, sym, subst, arith, slice_index_or, ℕ}
 use Rattle.std.proofs.lemmas.List.{with_items_is}
 use Rattle.std.specs.Vec.{with_items}
 use Rattle.d_path.specs.Arcs.{arcs_of, intervals_of}
-use Rattle.d_path.specs.Rows.{rows_of, WritesRow}
 use Rattle.d_path.proofs.RowLemmas.{row_is, row_fits, row_written}
 use Rattle.d_path.proofs.least.fill_end.Goals as goal
 use Rattle.d_path.proofs.least.fill_end.Goals.{After-as_mut_slice}

@@ -1,7 +1,7 @@
 use Rattle.d_path.specs.Arcs.{arcs_of}
-use Rattle.d_path.proofs.RowLemmas.{AreCheapestBelow}
+use Rattle.d_path.proofs.LowerLemmas.{AreLeastOf}
 use Rattle.d_path.proofs.least.fill_row.Given as goal
 
--- the columns so far have the least costs
-abbrev pub invariant-loop-column : goal.invariant-loop-column
-invariant-loop-column l = AreCheapestBelow (arcs_of l.ways) l.t l.row l.column
+-- each entry is the least over the moves so far
+abbrev pub invariant-loop-number : goal.invariant-loop-number
+invariant-loop-number l = AreLeastOf (arcs_of l.ways) l.costs l.next l.row l.number
