@@ -1,4 +1,4 @@
-ghost use Rattle.std.specs.Prelude.{◌≡◌, ◌+◌, ◌-◌, ◌^◌, [], ◌∷◌, ◌++◌, min, ◌↔◌, IsTrue, Contains, OnOk, OnErr, slice_index, slice_set};
+ghost use Rattle.std.specs.Prelude.{◌≡◌, ◌+◌, ◌-◌, ◌^◌, [], ◌∷◌, ◌++◌, min, ◌↔◌, IsTrue, Contains, replicate, OnOk, OnErr, slice_index, slice_set};
 ghost use Rattle.d_desk.specs.Planned.{number_of};
 
 use std::alloc::{AllocError, Global};
@@ -32,7 +32,8 @@ pub struct Plan {
 impl Plan {
     /// No call is to fail, and none came.
     pub fn new(alloc: Global) -> Plan
-        ensures { result.planned.items ≡ [] }
+        ensures planned { result.planned.items ≡ [] }
+        ensures counts { result.counts ≡ replicate 6 0 }
     {
         Plan {
             planned: Vec::new(alloc),
