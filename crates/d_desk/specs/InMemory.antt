@@ -6,6 +6,7 @@ use Rattle.d_desk.specs.declared.sure_desk.SureDesk.{SureDesk}
 use Rattle.d_desk.specs.KeptState.{kept_state}
 use Rattle.d_desk.specs.State.{State}
 
+-- a memory desk counts its faults itself
 abbrev pub memory_state : MemoryDesk → State
 memory_state d = kept_state d.faults d.kept
 

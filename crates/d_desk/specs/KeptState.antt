@@ -5,6 +5,7 @@ use Rattle.d_desk.specs.Scene.{Scene}
 use Rattle.d_desk.specs.State.{State}
 use Rattle.d_desk.specs.Stored.{files_of, openings_of}
 
+-- the five things that it tells
 abbrev pub kept_scene : Kept → Scene
 kept_scene k = record {
   files = files_of k.files;

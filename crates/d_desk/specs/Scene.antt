@@ -16,6 +16,7 @@ pub record Opening : Type 0 where
   pub way : Direction
   pub name : List ℕ
 
+-- an opening of that way and name
 abbrev pub opening : Direction → List ℕ → Opening
 opening w n = record { way = w; name = n }
 
@@ -31,6 +32,7 @@ pub record Scene : Type 0 where
   -- the openings so far, in order
   pub opened : List Opening
 
+-- the name of an opening for writing, in place of the other
 abbrev pub name_if_out : Direction → List ℕ → List ℕ → List ℕ
 name_if_out Out name other = name
 name_if_out In name other = other

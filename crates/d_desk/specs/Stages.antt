@@ -1,8 +1,10 @@
--- What a stage of a program does to a desk's scene: it opens files, it prints, or it writes into the open output.
+-- What a stage of a program does to a desk's scene: it opens files, prints, saves into the open output, or writes a file.
 -- Each comes whole, or cut short after a front of it.
-use Rattle.std.specs.Prelude.{◌≡◌, ℕ, List, ◌++◌}
-use Rattle.d_desk.specs.Front.{GainsFront}
-use Rattle.d_desk.specs.Scene.{Scene, Opening}
+use Rattle.std.specs.Prelude.{◌≡◌, ℕ, ◌⊎◌, List, [], ◌∷◌, ◌++◌, Some, bytes_eq}
+use Rattle.std.specs.Map.{update}
+use Rattle.d_desk.specs.declared.opened.Direction.TheVariants.{Out}
+use Rattle.d_desk.specs.Front.{IsFront, GainsFront}
+use Rattle.d_desk.specs.Scene.{Scene, Opening, opening}
 
 -- these openings were made, and nothing was saved, closed or printed
 pub record Opens (openings : List Opening) (before now : Scene) : Type 0 where
@@ -49,3 +51,24 @@ pub record SavesFront (text : List ℕ) (before now : Scene) : Type 0 where
   pub left : now.left ≡ before.left
   pub printed : now.printed ≡ before.printed
   pub opened : now.opened ≡ before.opened
+
+-- an output of that name has begun that has taken nothing yet, and nothing was closed or printed
+pub record Begins (name : List ℕ) (before now : Scene) : Type 0 where
+  pub opened : now.opened ≡ before.opened ++ opening Out name ∷ []
+  pub saved : now.saved ≡ []
+  pub files : now.files ≡ before.files
+  pub printed : now.printed ≡ before.printed
+
+-- the text is now the file of that name: its output was begun, took the text and was closed
+pub record Writes (name text : List ℕ) (before now : Scene) : Type 0 where
+  pub opened : now.opened ≡ before.opened ++ opening Out name ∷ []
+  pub saved : now.saved ≡ text
+  pub files : now.files ≡ update bytes_eq before.files name (Some text)
+  pub printed : now.printed ≡ before.printed
+
+-- the writing was cut short: no file changed, and an output that was begun has taken a front of the text
+pub record WritesFront (name text : List ℕ) (before now : Scene) : Type 0 where
+  pub opened : GainsFront before.opened now.opened (opening Out name ∷ [])
+  pub saved : (now.saved ≡ before.saved) ⊎ IsFront now.saved text
+  pub files : now.files ≡ before.files
+  pub printed : now.printed ≡ before.printed

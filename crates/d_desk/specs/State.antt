@@ -11,6 +11,7 @@ pub record State : Type 0 where
   pub taken : ℕ
   pub faults : ℕ
 
+-- no name has a file
 abbrev pub no_files : Files
 no_files = λ name. None
 
@@ -18,6 +19,7 @@ no_files = λ name. None
 abbrev pub blank_scene : Scene
 blank_scene = record { files = no_files; left = []; saved = []; printed = []; opened = [] }
 
+-- a desk on which nothing was done yet
 abbrev pub new_state : State
 new_state = record { scene = blank_scene; input_open = false; output_open = false; taken = 0; faults = 0 }
 
@@ -25,5 +27,6 @@ new_state = record { scene = blank_scene; input_open = false; output_open = fals
 abbrev pub with_file : List ℕ → List ℕ → Scene → Scene
 with_file name bytes s = record s { files = update bytes_eq s.files name (Some bytes) }
 
+-- the state with these bytes as the file of that name, and all else as it was
 abbrev pub put_in_state : List ℕ → List ℕ → State → State
 put_in_state name bytes s = record s { scene = with_file name bytes s.scene }

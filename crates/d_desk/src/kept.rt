@@ -9,7 +9,8 @@ use crate::opened::{Direction, Opened};
 use std::alloc::{AllocError, Global};
 use std::collections::BTreeMap;
 
-/// What a desk in memory keeps: its files, its open input and output, what was printed and what was opened.
+/// What a desk in memory keeps: its files, its open input and output, what was printed and what was
+/// opened.
 #[derive(Drop)]
 pub struct Kept {
     alloc: Global,
@@ -95,7 +96,8 @@ impl Kept {
         self.openings.as_slice()
     }
 
-    /// Sets the bytes of the file of that name. An open input keeps the bytes that it was opened with.
+    /// Sets the bytes of the file of that name. An open input keeps the bytes that it was opened
+    /// with.
     pub fn put_file(&mut self, name: &str, bytes: &[u8]) -> Result<(), DeskFault>
         ensures ok { OnOk result (kept_scene self.new ≡ with_file name.now bytes.now (kept_scene self.old)) }
         ensures err { OnErr result (kept_scene self.new ≡ kept_scene self.old) }
@@ -265,7 +267,8 @@ fn put(
     name: &str,
     bytes: &[u8],
 ) -> Result<(), AllocError>
-    ensures ok { OnOk result (files_of files.new ≡ update bytes_eq (files_of files.old) name.now (Some bytes.now)) }
+    ensures ok { OnOk result
+        (files_of files.new ≡ update bytes_eq (files_of files.old) name.now (Some bytes.now)) }
     ensures err { OnErr result (files_of files.new ≡ files_of files.old) }
 {
     let name = String::from_str(alloc, name)?;
@@ -281,7 +284,9 @@ fn list(
     way: Direction,
     name: &str,
 ) -> Result<(), AllocError>
-    ensures ok { OnOk result (openings_of openings.new.items ≡ openings_of openings.old.items ++ opening way name.now ∷ []) }
+    ensures ok { OnOk result
+        (openings_of openings.new.items
+        ≡ openings_of openings.old.items ++ opening way name.now ∷ []) }
     ensures err { OnErr result (openings_of openings.new.items ≡ openings_of openings.old.items) }
 {
     let name = String::from_str(alloc, name)?;

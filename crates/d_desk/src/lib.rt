@@ -1,10 +1,11 @@
 //! The desk of a program: the files it reads, the one output it writes, and what it prints.
 //!
-//! `Desk` is the trait that stands between a program and the world. It says by contract what each call
-//! reads, keeps and prints, and counts its faults, so that a program can be proved to answer a failure
-//! only where a call on its desk failed. `load_file`, `save_all` and `print_all` do whole files and
-//! texts over any desk. `MemoryDesk` keeps its files in memory and fails at the calls that it was told
-//! to, and `SureDesk` never fails. What the real file system holds, no contract here says.
+//! `Desk` is the trait that stands between a program and the world. It says by contract what each
+//! call reads, keeps and prints, and counts its faults, so that a program can be proved to answer a
+//! failure only where a call on its desk failed. `load_file`, `save_all` and `print_all` do whole
+//! files and texts over any desk. `MemoryDesk` keeps its files in memory and fails at the calls
+//! that it was told to, and `SureDesk` never fails. What the real file system holds, no contract
+//! here says.
 #![tactic(auto)]
 
 mod desk;

@@ -44,9 +44,10 @@ impl From<AllocError> for LoadFault {
 
 /// Opens the file of that name, reads it to its end, and answers its bytes.
 ///
-/// TooLong is answered exactly where `limit` + 1 bytes were read, so only for a file of more bytes than the limit; of a file that
-/// is within the limit all bytes are answered. Failed is answered only where the desk counted a fault in this call. Where told,
-/// the call opens that file alone, or nothing, and then it answers Memory; it saves and prints nothing and leaves the files.
+/// TooLong is answered exactly where `limit` + 1 bytes were read, so only for a file of more bytes
+/// than the limit; of a file that is within the limit all bytes are answered. Failed is answered
+/// only where the desk counted a fault in this call. Where told, the call opens that file alone, or
+/// nothing, and then it answers Memory; it saves and prints nothing and leaves the files.
 pub fn load_file<D: Desk>(
     alloc: Global,
     desk: &mut D,
@@ -56,7 +57,8 @@ pub fn load_file<D: Desk>(
     requires { limit ≤ 2 ^ 30 }
     ensures told { D.tells → Loads name.now limit (D.scene desk.old) (D.scene desk.new) result }
     ensures too_long { IsErrOf result LoadFault.TooLong ↔ (D.taken desk.new ≡ limit + 1) }
-    ensures within { IfOk result (λ bytes. (D.taken desk.new ≡ length bytes.items) × (length bytes.items ≤ limit)) }
+    ensures within { IfOk result
+        (λ bytes. (D.taken desk.new ≡ length bytes.items) × (length bytes.items ≤ limit)) }
     ensures output { D.output_open desk.new ≡ D.output_open desk.old }
     ensures later { D.faults desk.old ≤ D.faults desk.new }
     ensures failed { IsErrOf result LoadFault.Failed → Rose (D.faults desk.old) (D.faults desk.new) }

@@ -8,8 +8,8 @@ use crate::opened::Opened;
 use crate::plan::{DeskCall, Plan};
 use std::alloc::Global;
 
-/// A desk whose files stand in memory, and which fails at the calls that it was told to, and at opening a file for reading that it
-/// doesn't have. It counts each failure.
+/// A desk whose files stand in memory, and which fails at the calls that it was told to, and at
+/// opening a file for reading that it doesn't have. It counts each failure.
 #[derive(Drop)]
 pub struct MemoryDesk {
     kept: Kept,
@@ -23,7 +23,8 @@ impl MemoryDesk {
     ghost use Rattle.d_desk.specs.State.{new_state, put_in_state};
     ghost use Rattle.d_desk.specs.Stored.{openings_of};
 
-    /// A desk without a file, on which no call is to fail. One call reads, saves or prints at most the greatest number of bytes.
+    /// A desk without a file, on which no call is to fail. One call reads, saves or prints at most
+    /// the greatest number of bytes.
     pub fn new(alloc: Global, greatest: usize) -> MemoryDesk
         requires { 1 ≤ greatest }
         ensures state { memory_state result ≡ new_state }
@@ -71,9 +72,11 @@ impl MemoryDesk {
         self.faults
     }
 
-    /// Sets the bytes of the file of that name. The only error is want of memory, and it changes nothing.
+    /// Sets the bytes of the file of that name. The only error is want of memory, and it changes
+    /// nothing.
     pub fn put_file(&mut self, name: &str, bytes: &[u8]) -> Result<(), DeskFault>
-        ensures ok { OnOk result (memory_state self.new ≡ put_in_state name.now bytes.now (memory_state self.old)) }
+        ensures ok { OnOk result
+            (memory_state self.new ≡ put_in_state name.now bytes.now (memory_state self.old)) }
         ensures err { OnErr result (memory_state self.new ≡ memory_state self.old) }
         ensures memory { IsOkUnless result DeskFault.Memory }
         ensures planned { planned_faults self.new ≡ planned_faults self.old }
@@ -81,9 +84,12 @@ impl MemoryDesk {
         self.kept.put_file(name, bytes)
     }
 
-    /// Lets the call of that kind and number fail. The only error is want of memory, and it changes nothing.
+    /// Lets the call of that kind and number fail. The only error is want of memory, and it changes
+    /// nothing.
     pub fn fail_at(&mut self, kind: DeskCall, number: u32) -> Result<(), DeskFault>
-        ensures ok { OnOk result (planned_faults self.new ≡ planned_faults self.old ++ record { kind = kind; number = number } ∷ []) }
+        ensures ok { OnOk result
+            (planned_faults self.new
+            ≡ planned_faults self.old ++ record { kind = kind; number = number } ∷ []) }
         ensures err { OnErr result (planned_faults self.new ≡ planned_faults self.old) }
         ensures memory { IsOkUnless result DeskFault.Memory }
         ensures state { memory_state self.new ≡ memory_state self.old }

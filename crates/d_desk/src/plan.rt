@@ -1,4 +1,4 @@
-ghost use Rattle.std.specs.Prelude.{◌≡◌, ◌+◌, ◌-◌, ◌^◌, [], ◌∷◌, ◌++◌, min, ◌↔◌, IsTrue, Contains, OnOk, OnErr, slice_index, slice_set};
+ghost use Rattle.std.specs.Prelude.{◌≡◌, ◌+◌, ◌-◌, ◌^◌, [], ◌∷◌, ◌++◌, min, ◌↔◌, IsTrue, Contains, replicate, OnOk, OnErr, slice_index, slice_set};
 ghost use Rattle.d_desk.specs.Planned.{number_of};
 
 use std::alloc::{AllocError, Global};
@@ -21,7 +21,8 @@ pub struct PlannedFault {
     pub number: u32,
 }
 
-/// Which calls are to fail, and how many calls of each kind came. Each count stays at its last value.
+/// Which calls are to fail, and how many calls of each kind came. Each count stays at its last
+/// value.
 #[derive(Drop)]
 pub struct Plan {
     pub planned: Vec<PlannedFault>,
@@ -31,7 +32,8 @@ pub struct Plan {
 impl Plan {
     /// No call is to fail, and none came.
     pub fn new(alloc: Global) -> Plan
-        ensures { result.planned.items ≡ [] }
+        ensures planned { result.planned.items ≡ [] }
+        ensures counts { result.counts ≡ replicate 6 0 }
     {
         Plan {
             planned: Vec::new(alloc),
@@ -41,7 +43,9 @@ impl Plan {
 
     /// Adds a call that is to fail.
     pub fn add(&mut self, kind: DeskCall, number: u32) -> Result<(), AllocError>
-        ensures ok { OnOk result (self.new.planned.items ≡ self.old.planned.items ++ record { kind = kind; number = number } ∷ []) }
+        ensures ok { OnOk result
+            (self.new.planned.items
+            ≡ self.old.planned.items ++ record { kind = kind; number = number } ∷ []) }
         ensures err { OnErr result (self.new.planned.items ≡ self.old.planned.items) }
         ensures counts { self.new.counts ≡ self.old.counts }
     {
@@ -51,9 +55,13 @@ impl Plan {
 
     /// Counts a call of this kind, and answers whether it is to fail.
     pub fn fails(&mut self, kind: DeskCall) -> bool
-        ensures counted { self.new.counts ≡ slice_set self.old.counts (number_of kind) (min (slice_index self.old.counts (number_of kind) + 1) (2 ^ 32 - 1)) }
+        ensures counted { let count = slice_index self.old.counts (number_of kind) in
+            self.new.counts
+            ≡ slice_set self.old.counts (number_of kind) (min (count + 1) (2 ^ 32 - 1)) }
         ensures planned { self.new.planned.items ≡ self.old.planned.items }
-        ensures fails { IsTrue result ↔ Contains self.old.planned.items (record { kind = kind; number = slice_index self.new.counts (number_of kind) }) }
+        ensures fails { let count = slice_index self.new.counts (number_of kind) in
+            IsTrue result
+            ↔ Contains self.old.planned.items (record { kind = kind; number = count }) }
     {
         let place = kind as usize;
         let number = self.counts[place].saturating_add(1);

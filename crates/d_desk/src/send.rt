@@ -22,7 +22,8 @@ pub fn print_all<D: Desk>(desk: &mut D, part: &[u8]) -> Result<(), DeskFault>
     Ok(())
 }
 
-/// Appends the whole part to the open output. After an error the output has taken a front of it. Nothing else changes.
+/// Appends the whole part to the open output. After an error the output has taken a front of it.
+/// Nothing else changes.
 pub fn save_all<D: Desk>(desk: &mut D, part: &[u8]) -> Result<(), DeskFault>
     requires { IsTrue (D.output_open desk.old) }
     ensures all { D.tells → OnOk result (SavesOnly part.now (D.scene desk.old) (D.scene desk.new)) }

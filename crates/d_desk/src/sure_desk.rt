@@ -4,7 +4,8 @@ use crate::kept::Kept;
 use crate::opened::Opened;
 use std::alloc::Global;
 
-/// A desk whose files stand in memory, and which never fails. A file that it doesn't have reads as an empty one.
+/// A desk whose files stand in memory, and which never fails. A file that it doesn't have reads as
+/// an empty one.
 #[derive(Drop)]
 pub struct SureDesk {
     kept: Kept,
@@ -54,7 +55,8 @@ impl SureDesk {
         self.kept.openings()
     }
 
-    /// Sets the bytes of the file of that name. The only error is want of memory, and it changes nothing.
+    /// Sets the bytes of the file of that name. The only error is want of memory, and it changes
+    /// nothing.
     pub fn put_file(&mut self, name: &str, bytes: &[u8]) -> Result<(), DeskFault>
         ensures ok { OnOk result (sure_state self.new ≡ put_in_state name.now bytes.now (sure_state self.old)) }
         ensures err { OnErr result (sure_state self.new ≡ sure_state self.old) }

@@ -2,6 +2,7 @@ use crate::{
     Desk, DeskCall, DeskFault, Direction, LoadFault, MemoryDesk, SureDesk, load_file, print_all,
     save_all,
 };
+use std::alloc::Global;
 use std::test::Fail;
 
 // Writes one file of two parts, and prints a line.
@@ -11,6 +12,15 @@ fn write_and_print<D: Desk>(desk: &mut D) -> Result<(), DeskFault> {
     save_all(desk, b"second")?;
     desk.close_out()?;
     print_all(desk, b"written")
+}
+
+// Reads one file, and then writes another and prints.
+fn copy_and_print<D: Desk>(alloc: Global, desk: &mut D) -> Result<(), DeskFault> {
+    match load_file(alloc, desk, "meter", 9) {
+        Ok(_) => write_and_print(desk),
+        Err(LoadFault::Memory) => Err(DeskFault::Memory),
+        Err(_) => Err(DeskFault::Failed),
+    }
 }
 
 #[test]
@@ -26,21 +36,35 @@ fn loads_a_file_up_to_its_limit(rt: HostRuntime) -> Result<(), Fail> {
 }
 
 #[test]
-fn fails_where_it_is_told_to(rt: HostRuntime) -> Result<(), Fail> {
-    let mut desk = MemoryDesk::new(rt.alloc(), 4);
-    desk.put_file("meter", b"a reading")?;
-    desk.fail_at(DeskCall::Read, 3)?;
-    desk.fail_at(DeskCall::Print, 2)?;
-    // The third read fails, and the ones after it don't.
-    let failed = load_file(rt.alloc(), &mut desk, "meter", 9);
-    assert!(rt; matches!(failed, Err(LoadFault::Failed)));
-    let bytes = load_file(rt.alloc(), &mut desk, "meter", 9)?;
-    assert_eq!(rt; bytes.len(), 9);
-    // The second print fails, after a front of the text.
-    let cut = write_and_print(&mut desk);
-    assert_eq!(rt; cut, Err(DeskFault::Failed));
-    assert_eq!(rt; desk.printed_bytes(), b"writ".as_slice());
-    assert_eq!(rt; desk.fault_count(), 2);
+fn each_kind_of_call_fails_where_it_is_told_to(rt: HostRuntime) -> Result<(), Fail> {
+    // A kind and a number, and then what was opened, saved and printed when that call failed.
+    let cases = [
+        (DeskCall::OpenIn, 1, 1, 0, 0),
+        (DeskCall::Read, 4, 1, 0, 0),
+        (DeskCall::OpenOut, 1, 2, 0, 0),
+        (DeskCall::Save, 3, 2, 6, 0),
+        (DeskCall::CloseOut, 1, 2, 12, 0),
+        (DeskCall::Print, 2, 2, 12, 4),
+    ];
+    for (kind, number, opened, saved, printed) in cases {
+        let mut desk = MemoryDesk::new(rt.alloc(), 4);
+        desk.put_file("meter", b"a reading")?;
+        desk.fail_at(kind, number)?;
+        assert_eq!(rt;
+            copy_and_print(rt.alloc(), &mut desk),
+            Err(DeskFault::Failed)
+        );
+        assert_eq!(rt; desk.openings().len(), opened);
+        assert_eq!(rt; desk.saved_bytes().len(), saved);
+        assert_eq!(rt; desk.printed_bytes().len(), printed);
+        assert_eq!(rt;
+            desk.file_bytes("plan.txt").is_some(),
+            kind == DeskCall::Print
+        );
+        // The same calls again have other numbers.
+        assert_eq!(rt; copy_and_print(rt.alloc(), &mut desk), Ok(()));
+        assert_eq!(rt; desk.fault_count(), 1);
+    }
     Ok(())
 }
 
