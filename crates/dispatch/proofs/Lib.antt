@@ -2,3 +2,4 @@ pub mod NineWords
 pub mod Blanks
 pub mod Marks
 pub mod TableFacts
+pub mod CsvRecords
