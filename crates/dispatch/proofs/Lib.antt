@@ -4,3 +4,5 @@ pub mod Marks
 pub mod TableFacts
 pub mod PrintFacts
 pub mod Decimals
+pub mod WholeTexts
+pub mod PriceTexts
