@@ -6,3 +6,4 @@ pub mod PrintFacts
 pub mod Decimals
 pub mod WholeTexts
 pub mod PriceTexts
+pub mod Moments
