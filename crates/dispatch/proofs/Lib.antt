@@ -7,3 +7,4 @@ pub mod Decimals
 pub mod WholeTexts
 pub mod PriceTexts
 pub mod Moments
+pub mod MonthTexts
