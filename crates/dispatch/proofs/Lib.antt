@@ -8,3 +8,4 @@ pub mod WholeTexts
 pub mod PriceTexts
 pub mod Moments
 pub mod MonthTexts
+pub mod ReadingsFacts
