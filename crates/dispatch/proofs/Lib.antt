@@ -3,3 +3,10 @@ pub mod Blanks
 pub mod Marks
 pub mod TableFacts
 pub mod CsvRecords
+pub mod PrintFacts
+pub mod Decimals
+pub mod WholeTexts
+pub mod PriceTexts
+pub mod Moments
+pub mod MonthTexts
+pub mod ReadingsFacts

@@ -1,0 +1,25 @@
+use Rattle.std.proofs.Common.{◌≡◌, ◌+◌, ◌*◌, ℕ, ℤ, pos, length, arith, sym, ap, subst, ◌∙◌}
+use Rattle.jiff_core.specs.Calendar.{days_in_month}
+use Rattle.dispatch.specs.ReadingsFile.{IsStartText}
+use Rattle.dispatch.proofs.ReadingsFacts.{first_start, file_rows}
+use Rattle.dispatch.proofs.readings.named_month.Goals as goal
+
+pub returns-in_err-month-clause-some : goal.returns-in_err-month-clause-some
+returns-in_err-month-clause-some c = λ year number net file.
+    let start : IsStartText c.cell.result.now year number 60 0 = rw c.cell.ensures (first_start c.args.table.now year number net file) in
+    let other = c.in_err-month.ensures.some year number file.month start in
+    cc
+
+pub returns-then-len-days-clause-named : goal.returns-then-len-days-clause-named
+returns-then-len-days-clause-named c = λ year number net file.
+    let start : IsStartText c.cell.result.now year number 60 0 = rw c.cell.ensures (first_start c.args.table.now year number net file) in
+    (c.in_ok-month.ensures.year year number file.month start, c.in_ok-month.ensures.number year number file.month start)
+
+pub returns-else-len-days-clause-some : goal.returns-else-len-days-clause-some
+returns-else-len-days-clause-some c = λ year number net file.
+    let start : IsStartText c.cell.result.now year number 60 0 = rw c.cell.ensures (first_start c.args.table.now year number net file) in
+    let y = c.in_ok-month.ensures.year year number file.month start in
+    let n = c.in_ok-month.ensures.number year number file.month start in
+    let days : c.days.result ≡ days_in_month year number = c.days.ensures ∙ rw (y, n) in
+    let rows = file_rows c.args.table.now year number net file in
+    absurd (c.if-len-days.false (omega (arith, days, rows, c.len-2.ensures)))
