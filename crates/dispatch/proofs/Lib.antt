@@ -2,3 +2,5 @@ pub mod NineWords
 pub mod Blanks
 pub mod Marks
 pub mod TableFacts
+pub mod WholeTexts
+pub mod PriceTexts

@@ -1,8 +1,10 @@
 //! Numbers as the files write them.
 
-ghost use Rattle.std.specs.Prelude.{◌≡◌, ℕ, ◌≤◌, ℤ, pos, length, w64, FitsSigned, IfNone, IfSome};
+ghost use Rattle.std.specs.Prelude.{◌≡◌, ℕ, ◌≤◌, ℤ, pos, length, FitsSigned, IfNone, IfSome, IsTrue, ◌↔◌};
+ghost use Rattle.std.specs.Int.{w64};
 ghost use Rattle.std.specs.Str.Parse.{IsNumeral, digits_value};
 ghost use Rattle.dispatch.specs.Number.{IsWholeText, IsPriceText};
+ghost use Rattle.dispatch.specs.PlainFront.{HasPlainFront};
 
 use d_num::Rate;
 use std::str;
@@ -21,12 +23,19 @@ pub fn read_whole(cell: &[u8]) -> Option<i64>
     if !has_plain_front(cell) {
         return None;
     }
-    let text = str::from_utf8(cell).ok()?;
-    text.parse::<i64>().ok()
+    let Ok(text) = str::from_utf8(cell) else {
+        return None;
+    };
+    match text.parse::<i64>() {
+        Ok(number) => Some(number),
+        Err(_) => None,
+    }
 }
 
 /// Whether no plus, no zero before other digits, and no minus before a zero stands at the front.
-fn has_plain_front(cell: &[u8]) -> bool {
+fn has_plain_front(cell: &[u8]) -> bool
+    ensures { IsTrue result ↔ HasPlainFront cell.now }
+{
     if cell.is_empty() || cell[0] == b'+' {
         return false;
     }
@@ -60,9 +69,14 @@ fn read_digits(digits: &[u8], most: usize) -> Option<u64>
     ensures none { IfNone result (IsNumeral 10 digits.now → length digits.now ≤ most → ⊥) }
     ensures some { IfSome result (λ number. IsNumeral 10 digits.now × (length digits.now ≤ most) × (number ≡ digits_value 10 digits.now)) }
 {
-    if digits.len() > most || !digits.iter().all(|byte| byte.is_ascii_digit()) {
+    if digits.is_empty() || digits.len() > most || digits[0] == b'+' {
         return None;
     }
-    let text = str::from_utf8(digits).ok()?;
-    text.parse::<u64>().ok()
+    let Ok(text) = str::from_utf8(digits) else {
+        return None;
+    };
+    match text.parse::<u64>() {
+        Ok(number) => Some(number),
+        Err(_) => None,
+    }
 }
