@@ -3,3 +3,8 @@ pub mod Blanks
 pub mod Marks
 pub mod TableFacts
 pub mod CsvRecords
+pub mod PriceLaws
+pub mod PlanArcs
+pub mod PlanSteps
+pub mod FeasibleWays
+pub mod LeastWays
