@@ -10,3 +10,8 @@ pub mod PriceTexts
 pub mod Moments
 pub mod MonthTexts
 pub mod ReadingsFacts
+pub mod PriceLaws
+pub mod PlanArcs
+pub mod PlanSteps
+pub mod FeasibleWays
+pub mod LeastWays
