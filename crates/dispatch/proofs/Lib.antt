@@ -3,3 +3,4 @@ pub mod Blanks
 pub mod Marks
 pub mod TableFacts
 pub mod CsvRecords
+pub mod StageFacts

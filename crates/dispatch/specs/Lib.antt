@@ -9,3 +9,4 @@ pub mod BatteryFile
 pub mod Answer
 pub mod Replies
 pub mod Runs
+pub mod StageResults
