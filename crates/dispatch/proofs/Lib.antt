@@ -4,3 +4,8 @@ pub mod Marks
 pub mod TableFacts
 pub mod CsvRecords
 pub mod StageFacts
+pub mod AnswerFacts
+pub mod AnswerLaws
+pub mod FileLaws
+pub mod OneAnswer
+pub mod RunLaws

@@ -79,30 +79,30 @@ pub data IsPlanned (inputs : Inputs) (asked : Asked) (answer : Answer) : Type 0 
 
 -- the answer where record and readings are known: by the battery file, which has at most 2^24 bytes
 pub data IsWithBattery (files : Files) (asked : Asked) (price : ℕ) (year : ℤ) (number : ℕ) (net : List ℤ) (answer : Answer) : Type 0 where
-  too_long : 2 ^ 24 < length (bytes_in files asked.battery) → answer ≡ refused LongBattery (opens_all asked)
+  battery_too_long : 2 ^ 24 < length (bytes_in files asked.battery) → answer ≡ refused LongBattery (opens_all asked)
       → IsWithBattery files asked price year number net answer
   no_battery : length (bytes_in files asked.battery) ≤ 2 ^ 24 → ((storage : Storage) → MeansBattery files asked storage → ⊥)
       → answer ≡ refused Battery (opens_all asked) → IsWithBattery files asked price year number net answer
-  battery : length (bytes_in files asked.battery) ≤ 2 ^ 24 → (storage : Storage) → MeansBattery files asked storage
+  has_battery : length (bytes_in files asked.battery) ≤ 2 ^ 24 → (storage : Storage) → MeansBattery files asked storage
       → IsPlanned (hourly_inputs price year number net storage) asked answer → IsWithBattery files asked price year number net answer
 
 -- the answer where the record is known: by the readings file, which has at most 2^24 bytes
 pub data IsWithReadings (files : Files) (asked : Asked) (price : ℕ) (answer : Answer) : Type 0 where
-  too_long : 2 ^ 24 < length (bytes_in files asked.readings) → answer ≡ refused LongReadings (opens_readings asked)
+  readings_too_long : 2 ^ 24 < length (bytes_in files asked.readings) → answer ≡ refused LongReadings (opens_readings asked)
       → IsWithReadings files asked price answer
   no_month : length (bytes_in files asked.readings) ≤ 2 ^ 24
       → ((year : ℤ) (number : ℕ) (net : List ℤ) → MeansMonth files asked year number net → ⊥)
       → answer ≡ refused Readings (opens_readings asked) → IsWithReadings files asked price answer
-  month : length (bytes_in files asked.readings) ≤ 2 ^ 24 → (year : ℤ) (number : ℕ) (net : List ℤ) → MeansMonth files asked year number net
+  has_month : length (bytes_in files asked.readings) ≤ 2 ^ 24 → (year : ℤ) (number : ℕ) (net : List ℤ) → MeansMonth files asked year number net
       → IsWithBattery files asked price year number net answer → IsWithReadings files asked price answer
 
 -- the answer to a request: by the record file first, which has at most 2^30 bytes
 pub data IsWithRecord (files : Files) (asked : Asked) (answer : Answer) : Type 0 where
-  too_long : 2 ^ 30 < length (bytes_in files asked.records) → answer ≡ refused LongRecord (opens_record asked)
+  record_too_long : 2 ^ 30 < length (bytes_in files asked.records) → answer ≡ refused LongRecord (opens_record asked)
       → IsWithRecord files asked answer
   no_price : length (bytes_in files asked.records) ≤ 2 ^ 30 → ((price : ℕ) → MeansPrice files asked price → ⊥)
       → answer ≡ refused Record (opens_record asked) → IsWithRecord files asked answer
-  price : length (bytes_in files asked.records) ≤ 2 ^ 30 → (price : ℕ) → MeansPrice files asked price
+  has_price : length (bytes_in files asked.records) ≤ 2 ^ 30 → (price : ℕ) → MeansPrice files asked price
       → IsWithReadings files asked price answer → IsWithRecord files asked answer
 
 -- the answer to a list of words: they are no request, and nothing is opened; or they are, and the files decide

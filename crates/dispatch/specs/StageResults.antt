@@ -2,6 +2,7 @@
 use Rattle.std.specs.Prelude.{◌≡◌, ◌⊎◌, ℕ, ℤ, pos, ◌^◌, ◌<◌, ◌≤◌, List, [], ◌∷◌, length, Result, Ok, Err, Vec}
 use Rattle.std.specs.declared.alloc.Global.{Global}
 use Rattle.d_desk.specs.Scene.{Files, Scene, Opening, opening, bytes_in}
+use Rattle.d_desk.specs.Front.{GainsFront}
 use Rattle.d_desk.specs.Stages.{Opens, OpensSome}
 use Rattle.d_desk.specs.declared.opened.Direction.TheVariants.{In}
 use Rattle.d_desk.specs.declared.fault.DeskFault.{DeskFault}
@@ -87,9 +88,11 @@ pub record IsPrepared (words : List (List ℕ)) (before now : Scene) (verdict : 
   pub text_is : text ≡ answer.text
   pub opens : Opens answer.openings before now
 
--- of whatever the answer is, a front of its files was opened, and nothing is printed
-abbrev pub StopsOpening : List (List ℕ) → Scene → Scene → Type 0
-StopsOpening words before now = (answer : Answer) → IsAnswer words before.files answer → OpensSome answer.openings before now
+-- nothing is printed yet, and of whatever the answer is a front of its files was opened
+pub record StopsOpening (words : List (List ℕ)) (before now : Scene) : Type 0 where
+  pub files : now.files ≡ before.files
+  pub printed : now.printed ≡ before.printed
+  pub opened : (answer : Answer) → IsAnswer words before.files answer → GainsFront before.opened now.opened answer.openings
 
 abbrev pub Prepares : List (List ℕ) → Scene → Scene → Result Reply Fault → Type 0
 Prepares words before now (Ok reply) = IsPrepared words before now reply.verdict reply.text.items
