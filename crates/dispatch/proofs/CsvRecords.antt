@@ -32,17 +32,17 @@ next_behind : (s : State) (fields : List (List ℕ)) (field xs : List ℕ) → I
 unfolding next_record
 next_behind s fields field [] = ending s fields field
   where
-  ending : (s : State) (fields : List (List ℕ)) (field : List ℕ) → IfSome (cond (ends_at_end s) (Some (fields ++ (field ∷ []), st.StartRecord, [])) None) (Behind 0)
-  ending s fields field = elim (ends_at_end s) as (λ b. IfSome (cond b (Some (fields ++ (field ∷ []), st.StartRecord, [])) None) (Behind 0)) [ true ↦ record { shorter = omega arith; between = refl } | false ↦ tt ]
+    ending : (s : State) (fields : List (List ℕ)) (field : List ℕ) → IfSome (cond (ends_at_end s) (Some (fields ++ (field ∷ []), st.StartRecord, [])) None) (Behind 0)
+    ending s fields field = elim (ends_at_end s) as (λ b. IfSome (cond b (Some (fields ++ (field ∷ []), st.StartRecord, [])) None) (Behind 0)) [ true ↦ record { shorter = omega arith; between = refl } | false ↦ tt ]
 next_behind s fields field (c ∷ rest) =
     more (is_end (step default_config s c).1) (fields_after (step default_config s c).1 fields field) (step default_config s c).0 rest _
-        (step_between s c) (next_behind (step default_config s c).0 (fields_after (step default_config s c).1 fields field) (field_after (step default_config s c).1 c field) rest)
+    (step_between s c) (next_behind (step default_config s c).0 (fields_after (step default_config s c).1 fields field) (field_after (step default_config s c).1 c field) rest)
   where
-  more : (ends : Bool) (fields : List (List ℕ)) (s : State) (rest : List ℕ) (other : Option Read) → (ends ≡ true → is_between s ≡ true)
-      → IfSome other (Behind (length rest)) → IfSome (cond ends (Some (fields, s, rest)) other) (Behind (suc (length rest)))
-  more true fields s rest other between later = record { shorter = omega arith; between = between refl }
-  more false fields s rest None between later = tt
-  more false fields s rest (Some p) between later = record { shorter = omega (arith, later.shorter); between = later.between }
+    more : (ends : Bool) (fields : List (List ℕ)) (s : State) (rest : List ℕ) (other : Option Read) → (ends ≡ true → is_between s ≡ true)
+        → IfSome other (Behind (length rest)) → IfSome (cond ends (Some (fields, s, rest)) other) (Behind (suc (length rest)))
+    more true fields s rest other between later = record { shorter = omega arith; between = between refl }
+    more false fields s rest None between later = tt
+    more false fields s rest (Some p) between later = record { shorter = omega (arith, later.shorter); between = later.between }
 
 -- between two records the end of a text ends none
 ends_none : (s : State) → is_between s ≡ true → ends_at_end s ≡ false
@@ -64,15 +64,15 @@ next_shorter : (s : State) (xs : List ℕ) (p : Read) → is_between s ≡ true 
 unfolding next_record
 next_shorter s [] p between found = absurd (nothing p _ (ends_at_end s) (ends_none s between) found)
   where
-  nothing : (p q : Read) (b : Bool) → b ≡ false → cond b (Some q) None ≡ Some p → ⊥
-  nothing p q true e found = cc
-  nothing p q false e found = cc
+    nothing : (p q : Read) (b : Bool) → b ≡ false → cond b (Some q) None ≡ Some p → ⊥
+    nothing p q true e found = cc
+    nothing p q false e found = cc
 next_shorter s (c ∷ rest) p between found =
     shorter _ p (is_end (step default_config s c).1) _ found (next_behind (step default_config s c).0 (fields_after (step default_config s c).1 [] []) (field_after (step default_config s c).1 c []) rest)
   where
-  shorter : (q p : Read) (ends : Bool) (other : Option Read) → cond ends (Some q) other ≡ Some p → IfSome other (Behind (length q.2)) → length p.2 < suc (length q.2)
-  shorter q p true other found later = let e : q ≡ p = cc in let f : length q.2 ≡ length p.2 = ap (λ (r : Read). length r.2) e in omega arith
-  shorter q p false other found later = let b = found_behind (length q.2) other p later found in omega (arith, b.shorter)
+    shorter : (q p : Read) (ends : Bool) (other : Option Read) → cond ends (Some q) other ≡ Some p → IfSome other (Behind (length q.2)) → length p.2 < suc (length q.2)
+    shorter q p true other found later = let e : q ≡ p = cc in let f : length q.2 ≡ length p.2 = ap (λ (r : Read). length r.2) e in omega arith
+    shorter q p false other found later = let b = found_behind (length q.2) other p later found in omega (arith, b.shorter)
 
 -- so records read one after the other, up to where there is no more, are all of them
 pub records-reached : (n : ℕ) (s : State) (xs : List ℕ) (rows : List (List (List ℕ))) (s2 : State) (ys : List ℕ) → is_between s ≡ true

@@ -15,3 +15,9 @@ pub mod PlanArcs
 pub mod PlanSteps
 pub mod FeasibleWays
 pub mod LeastWays
+pub mod StageFacts
+pub mod AnswerFacts
+pub mod AnswerLaws
+pub mod FileLaws
+pub mod OneAnswer
+pub mod RunLaws

@@ -11,3 +11,4 @@ pub mod Replies
 pub mod Runs
 pub mod PlainFront
 pub mod PlanWays
+pub mod StageResults

@@ -42,5 +42,5 @@ returns-clause-value c =
     let s = rw c.in-None.is at ((c.next.ensures.steps inv.2 inv.0).0 inv.1) in
     let ended = rows-end (λ (s : Bor (List ℕ)). Some s.now) c.loop-row.row-iterator.rdr c.next.new.self.rdr [] default_config inv.4 inv.3 inv.5 s in
     let all : records default_config (strip_bom (strip_bom c.args.bytes.now)) ≡ map fields_of c.loop-row.rows.items =
-        records_are _ _ (c.loop-row.row-iterator.rdr.state, inv.4, inv.6, ended) in
+    records_are _ _ (c.loop-row.row-iterator.rdr.state, inv.4, inv.6, ended) in
     rw all (sym (map-map (map trimmed) fields_of c.loop-row.rows.items))
