@@ -1,10 +1,6 @@
 //! Numbers as the files write them.
 
-<<<<<<< HEAD
-ghost use Rattle.std.specs.Prelude.{◌≡◌, ℕ, ◌≤◌, ℤ, pos, length, FitsSigned, IfNone, IfSome, IsTrue, ◌↔◌};
-=======
 ghost use Rattle.std.specs.Prelude.{◌≡◌, ℕ, ◌+◌, ◌-◌, ◌*◌, ◌^◌, ◌<◌, ◌≤◌, ◌==◌, ℤ, pos, length, take, drop, position, FitsSigned, IfNone, IfSome, IsTrue, ◌↔◌};
->>>>>>> 9c5905ebea8e676575c7bd1fba6c07e6c5191b70
 ghost use Rattle.std.specs.Int.{w64};
 ghost use Rattle.std.specs.Str.Parse.{IsNumeral, digits_value};
 ghost use Rattle.dispatch.specs.Number.{IsWholeText, IsPriceText};
@@ -114,7 +110,7 @@ fn rate_of(units: u128) -> Option<Rate>
 }
 
 /// The number that the digits write, or None exactly where there is none, more than so many, or a byte that is no digit.
-pub fn read_digits(digits: &[u8], most: usize) -> Option<u64>
+fn read_digits(digits: &[u8], most: usize) -> Option<u64>
     requires { most ≤ 18 }
     ensures none { IfNone result (IsNumeral 10 digits.now → length digits.now ≤ most → ⊥) }
     ensures some { IfSome result (λ number. IsNumeral 10 digits.now × (length digits.now ≤ most) × (number ≡ digits_value 10 digits.now)) }
