@@ -4,3 +4,5 @@ pub mod Marks
 pub mod TableFacts
 pub mod WholeTexts
 pub mod PriceTexts
+pub mod EntryFacts
+pub mod NoValues

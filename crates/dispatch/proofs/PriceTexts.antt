@@ -1,6 +1,6 @@
 -- Prices and their texts.
 use Rattle.std.proofs.Common.{◌≡◌, ◌≢◌, ℕ, zero, suc, ◌+◌, ◌-◌, ◌*◌, ◌^◌, ◌<◌, ◌≤◌, List, [], ◌∷◌, ◌++◌, length, drop, get_or, Result, Ok, Err, arith, rules, refl, sym, ap, ◌∙◌, subst, inl, inr}
-use Rattle.std.proofs.Common.{Bool, true, false, ◌==◌, IfNone, Option, Some, None, position, take, length-append, add-one, nat_lt}
+use Rattle.std.proofs.Common.{Bool, true, false, ◌==◌, Option, Some, None, position, take, length-append, add-one, nat_lt}
 use Rattle.std.specs.List.{position_or_len}
 use Rattle.std.specs.Str.{IsUtf8}
 use Rattle.std.specs.Str.Parse.{AllDigits, IsNumeral, digits_value, without_leading_plus}
@@ -141,8 +141,3 @@ price_some cell front back point whole decimals units at front_is back_is whole_
     let w = rw front_is at whole_is in
     let d = rw back_is at decimals_is in
     rw same (price_text cell point at w.0 w.1 d.0 d.1 (rw same at limit))
-
--- what follows from what is known where there is no value
-pub IfNone_then : {A : Type 0} (o : Option A) {P Q : Type 0} → IfNone o P → (P → Q) → IfNone o Q
-IfNone_then None known then = then known
-IfNone_then (Some x) known then = tt
