@@ -110,7 +110,7 @@ fn rate_of(units: u128) -> Option<Rate>
 }
 
 /// The number that the digits write, or None exactly where there is none, more than so many, or a byte that is no digit.
-fn read_digits(digits: &[u8], most: usize) -> Option<u64>
+pub fn read_digits(digits: &[u8], most: usize) -> Option<u64>
     requires { most ≤ 18 }
     ensures none { IfNone result (IsNumeral 10 digits.now → length digits.now ≤ most → ⊥) }
     ensures some { IfSome result (λ number. IsNumeral 10 digits.now × (length digits.now ≤ most) × (number ≡ digits_value 10 digits.now)) }
