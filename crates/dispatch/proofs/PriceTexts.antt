@@ -141,3 +141,16 @@ price_some cell front back point whole decimals units at front_is back_is whole_
     let w = rw front_is at whole_is in
     let d = rw back_is at decimals_is in
     rw same (price_text cell point at w.0 w.1 d.0 d.1 (rw same at limit))
+
+-- a text is one price
+price_at : (cell : List ℕ) (point units : ℕ) → position is_point cell ≡ Some point → IsPriceText cell units
+    → units ≡ units_at (take point cell) (drop (point + 1) cell)
+price_at cell point units at text =
+    let parts = parts_of cell point units at text in
+    parts.text.value ∙ sym (ap (λ (w : List ℕ). units_at w (drop (point + 1) cell)) parts.whole ∙ ap (λ (f : List ℕ). units_at parts.text.whole f) parts.fraction)
+
+pub price_text_same : (cell : List ℕ) (one other : ℕ) → IsPriceText cell one → IsPriceText cell other → one ≡ other
+price_text_same cell one other text text_other =
+    let at : position is_point cell ≡ Some (length text.whole) =
+        ap (λ (t : List ℕ). position is_point t) text.form ∙ point_is text.whole text.fraction text.whole_digits in
+    price_at cell (length text.whole) one at text ∙ sym (price_at cell (length text.whole) other at text_other)
