@@ -61,8 +61,11 @@ record_opens files asked answer (has_price within price means with) = front_fron
 -- a run that was cut short in these openings has stopped, where they are a front of those of any answer
 stops_opening : {words : List (List ℕ)} {part : List Opening} {x y : Scene} → OpensSome part x y
     → ((answer : Answer) → IsAnswer words x.files answer → IsFront part answer.openings) → StopsOpening words x y
-stops_opening some fronts = record { files = some.files; printed = some.printed;
-    opened = λ answer is. record { part = some.opened.part; gained = some.opened.gained; front = front_front some.opened.front (fronts answer is) } }
+stops_opening some fronts = record {
+  files = some.files;
+  printed = some.printed;
+  opened = λ answer is. record { part = some.opened.part; gained = some.opened.gained; front = front_front some.opened.front (fronts answer is) };
+}
 
 -- the answer to a request goes by its files
 with_record : (words : List (List ℕ)) (files : Files) (asked : Asked) (answer : Answer) → IsRequest words asked → IsAnswer words files answer → IsWithRecord files asked answer
@@ -85,8 +88,8 @@ pub stops_at_readings : (words : List (List ℕ)) (asked : Asked) (price : ℕ) 
     → length (bytes_in x.files asked.records) ≤ 2 ^ 30 → MeansPrice x.files asked price → OpensSome (opens_readings asked) x y → StopsOpening words x y
 stops_at_readings words asked price x y is within means some =
     stops_opening some (λ answer is_answer.
-        let with = with_readings x.files asked price answer within means (with_record words x.files asked answer is is_answer) in
-        readings_open x.files asked with.0 answer with.1)
+    let with = with_readings x.files asked price answer within means (with_record words x.files asked answer is is_answer) in
+    readings_open x.files asked with.0 answer with.1)
 
 pub stops_at_battery : (words : List (List ℕ)) (asked : Asked) (price : ℕ) (year : ℤ) (number : ℕ) (net : List ℤ) (x y : Scene) → IsRequest words asked
     → length (bytes_in x.files asked.records) ≤ 2 ^ 30 → MeansPrice x.files asked price
@@ -94,10 +97,10 @@ pub stops_at_battery : (words : List (List ℕ)) (asked : Asked) (price : ℕ) (
     → OpensSome (opens_all asked) x y → StopsOpening words x y
 stops_at_battery words asked price year number net x y is within means fits means_month some =
     stops_opening some (λ answer is_answer.
-        let with = with_readings x.files asked price answer within means (with_record words x.files asked answer is is_answer) in
-        all_open answer with.0 with.1)
+    let with = with_readings x.files asked price answer within means (with_record words x.files asked answer is is_answer) in
+    all_open answer with.0 with.1)
   where
-  all_open : (answer : Answer) (p : ℕ) → IsWithReadings x.files asked p answer → IsFront (opens_all asked) answer.openings
-  all_open answer p (readings_too_long above is) = absurd (omega arith)
-  all_open answer p (no_month fits none is) = absurd (none year number net means_month)
-  all_open answer p (has_month fits y2 n2 net2 means2 with) = front_of (battery_opens x.files asked p y2 n2 net2 answer with) (front_all (opens_all asked))
+    all_open : (answer : Answer) (p : ℕ) → IsWithReadings x.files asked p answer → IsFront (opens_all asked) answer.openings
+    all_open answer p (readings_too_long above is) = absurd (omega arith)
+    all_open answer p (no_month fits none is) = absurd (none year number net means_month)
+    all_open answer p (has_month fits y2 n2 net2 means2 with) = front_of (battery_opens x.files asked p y2 n2 net2 answer with) (front_all (opens_all asked))

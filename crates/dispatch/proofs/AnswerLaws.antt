@@ -37,11 +37,11 @@ pub ends_at_record : (Has : ℤ → Type 0) (words : List (List ℕ)) (asked : A
     → IsStage {T = ℤ} (opens_record asked) Has (RefusesRecord x.files asked) x y (Err fault) → Prepares words x y (Err fault)
 ends_at_record Has words asked x y (Refused refusal) is stage = by_refusal stage.1
   where
-  by_refusal : RefusesRecord x.files asked refusal → IsPrepared words x y (refused refusal []).verdict (refused refusal []).text
-  by_refusal (inl long) = refusal_prepared words x y refusal LongRecord (opens_record asked) long.refusal_is
-      (request asked is (record_too_long long.above refl)) stage.0
-  by_refusal (inr none) = refusal_prepared words x y refusal Record (opens_record asked) none.refusal_is
-      (request asked is (no_price none.within none.nothing refl)) stage.0
+    by_refusal : RefusesRecord x.files asked refusal → IsPrepared words x y (refused refusal []).verdict (refused refusal []).text
+    by_refusal (inl long) = refusal_prepared words x y refusal LongRecord (opens_record asked) long.refusal_is
+        (request asked is (record_too_long long.above refl)) stage.0
+    by_refusal (inr none) = refusal_prepared words x y refusal Record (opens_record asked) none.refusal_is
+        (request asked is (no_price none.within none.nothing refl)) stage.0
 ends_at_record Has words asked x y Failed is stage = stops_at_record words asked x y is stage
 ends_at_record Has words asked x y Memory is stage = stops_at_record words asked x y is stage
 
@@ -56,11 +56,11 @@ pub ends_at_readings : (Has : Meter → Type 0) (words : List (List ℕ)) (asked
 ends_at_readings Has words asked price x y z (Refused refusal) is opens gives stage =
     by_refusal (files_stay (λ files. RefusesReadings files asked refusal) opens stage.1)
   where
-  by_refusal : RefusesReadings x.files asked refusal → IsPrepared words x z (refused refusal []).verdict (refused refusal []).text
-  by_refusal (inl long) = refusal_prepared words x z refusal LongReadings (opens_readings asked) long.refusal_is
-      (request asked is (has_price gives.within gives.units gives.means (readings_too_long long.above refl))) (opens_then opens stage.0)
-  by_refusal (inr none) = refusal_prepared words x z refusal Readings (opens_readings asked) none.refusal_is
-      (request asked is (has_price gives.within gives.units gives.means (no_month none.within none.nothing refl))) (opens_then opens stage.0)
+    by_refusal : RefusesReadings x.files asked refusal → IsPrepared words x z (refused refusal []).verdict (refused refusal []).text
+    by_refusal (inl long) = refusal_prepared words x z refusal LongReadings (opens_readings asked) long.refusal_is
+        (request asked is (has_price gives.within gives.units gives.means (readings_too_long long.above refl))) (opens_then opens stage.0)
+    by_refusal (inr none) = refusal_prepared words x z refusal Readings (opens_readings asked) none.refusal_is
+        (request asked is (has_price gives.within gives.units gives.means (no_month none.within none.nothing refl))) (opens_then opens stage.0)
 ends_at_readings Has words asked price x y z Failed is opens gives stage =
     stops_at_readings words asked gives.units x z is gives.within gives.means (opens_some_after opens stage)
 ends_at_readings Has words asked price x y z Memory is opens gives stage =
@@ -73,13 +73,13 @@ pub ends_at_battery : (Has : Stored → Type 0) (words : List (List ℕ)) (asked
 ends_at_battery Has words asked price meter x y z (Refused refusal) is opens gives month stage =
     by_refusal (files_stay (λ files. RefusesBattery files asked refusal) opens stage.1)
   where
-  by_refusal : RefusesBattery x.files asked refusal → IsPrepared words x z (refused refusal []).verdict (refused refusal []).text
-  by_refusal (inl long) = refusal_prepared words x z refusal LongBattery (opens_all asked) long.refusal_is
-      (request asked is (has_price gives.within gives.units gives.means (has_month month.within meter.month.year meter.month.number meter.net month.means
-          (battery_too_long long.above refl)))) (opens_then opens stage.0)
-  by_refusal (inr none) = refusal_prepared words x z refusal Battery (opens_all asked) none.refusal_is
-      (request asked is (has_price gives.within gives.units gives.means (has_month month.within meter.month.year meter.month.number meter.net month.means
-          (no_battery none.within none.nothing refl)))) (opens_then opens stage.0)
+    by_refusal : RefusesBattery x.files asked refusal → IsPrepared words x z (refused refusal []).verdict (refused refusal []).text
+    by_refusal (inl long) = refusal_prepared words x z refusal LongBattery (opens_all asked) long.refusal_is
+        (request asked is (has_price gives.within gives.units gives.means (has_month month.within meter.month.year meter.month.number meter.net month.means
+        (battery_too_long long.above refl)))) (opens_then opens stage.0)
+    by_refusal (inr none) = refusal_prepared words x z refusal Battery (opens_all asked) none.refusal_is
+        (request asked is (has_price gives.within gives.units gives.means (has_month month.within meter.month.year meter.month.number meter.net month.means
+        (no_battery none.within none.nothing refl)))) (opens_then opens stage.0)
 ends_at_battery Has words asked price meter x y z Failed is opens gives month stage =
     stops_at_battery words asked gives.units meter.month.year meter.month.number meter.net x z is gives.within gives.means month.within month.means (opens_some_after opens stage)
 ends_at_battery Has words asked price meter x y z Memory is opens gives month stage =
@@ -97,13 +97,16 @@ pub prepared_plan : (words : List (List ℕ)) (asked : Asked) (price : ℤ) (met
     → IsReply (plain_of price meter battery) asked.label reply → IsPrepared words x y reply.verdict reply.text.items
 prepared_plan words asked price meter battery x y reply is opens gives month stored replies = by_reply replies
   where
-  inputs_are : plain_of price meter battery ≡ hourly_inputs gives.units meter.month.year meter.month.number meter.net (storage_of battery)
-  inputs_are = rw (gives.price_is, month.minutes) refl
-  whole : (answer : Answer) → IsPlanned (hourly_inputs gives.units meter.month.year meter.month.number meter.net (storage_of battery)) asked answer → IsAnswer words x.files answer
-  whole answer made = request asked is (has_price gives.within gives.units gives.means
-      (has_month month.within meter.month.year meter.month.number meter.net month.means (has_battery stored.within (storage_of battery) stored.means made)))
-  made_from : (answer : Answer) → IsPlanned (plain_of price meter battery) asked answer → IsAnswer words x.files answer
-  made_from answer made = let P : Inputs → Type 0 = λ inputs. IsPlanned inputs asked answer in whole answer (subst P inputs_are made)
-  by_reply : IsReply (plain_of price meter battery) asked.label reply → IsPrepared words x y reply.verdict reply.text.items
-  by_reply (inl none) = record { answer = _; is = made_from _ (no_schedule none.none refl); verdict_is = none.verdict_is; text_is = none.text_is; opens = opens }
-  by_reply (inr shows) = record { answer = _; is = made_from _ (least shows.schedule shows.least refl); verdict_is = shows.verdict_is; text_is = shows.text_is; opens = opens }
+    inputs_are : plain_of price meter battery ≡ hourly_inputs gives.units meter.month.year meter.month.number meter.net (storage_of battery)
+    inputs_are = rw (gives.price_is, month.minutes) refl
+
+    whole : (answer : Answer) → IsPlanned (hourly_inputs gives.units meter.month.year meter.month.number meter.net (storage_of battery)) asked answer → IsAnswer words x.files answer
+    whole answer made = request asked is (has_price gives.within gives.units gives.means
+        (has_month month.within meter.month.year meter.month.number meter.net month.means (has_battery stored.within (storage_of battery) stored.means made)))
+
+    made_from : (answer : Answer) → IsPlanned (plain_of price meter battery) asked answer → IsAnswer words x.files answer
+    made_from answer made = let P : Inputs → Type 0 = λ inputs. IsPlanned inputs asked answer in whole answer (subst P inputs_are made)
+
+    by_reply : IsReply (plain_of price meter battery) asked.label reply → IsPrepared words x y reply.verdict reply.text.items
+    by_reply (inl none) = record { answer = _; is = made_from _ (no_schedule none.none refl); verdict_is = none.verdict_is; text_is = none.text_is; opens = opens }
+    by_reply (inr shows) = record { answer = _; is = made_from _ (least shows.schedule shows.least refl); verdict_is = shows.verdict_is; text_is = shows.text_is; opens = opens }

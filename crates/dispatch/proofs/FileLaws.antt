@@ -34,15 +34,17 @@ pub month_same : (rows : List (List (List ℕ))) (year year' : ℤ) (number numb
     → IsReadingsFile rows year' number' net' → SameMonth year year' number number' net net'
 month_same rows year year' number number' net net' is is_other = record { year_is = year_is; number_is = number_is; net_is = net_is }
   where
-  year_is : year ≡ year'
-  year_is = sym (year_value (cell_in (row_at rows 1) 0) year number (digits_value 10 (take 4 (cell_in (row_at rows 1) 0))) is.month (first_start rows year number net is) refl)
-      ∙ year_value (cell_in (row_at rows 1) 0) year' number' (digits_value 10 (take 4 (cell_in (row_at rows 1) 0))) is_other.month (first_start rows year' number' net' is_other) refl
-  number_is : number ≡ number'
-  number_is = sym (number_value (cell_in (row_at rows 1) 0) year number (digits_value 10 (take 2 (drop 5 (cell_in (row_at rows 1) 0)))) is.month (first_start rows year number net is) refl)
-      ∙ number_value (cell_in (row_at rows 1) 0) year' number' (digits_value 10 (take 2 (drop 5 (cell_in (row_at rows 1) 0)))) is_other.month (first_start rows year' number' net' is_other) refl
-  net_is : net ≡ net'
-  net_is = ext_get_or (pos 0) net net' (omega (arith, is.count, is_other.count))
-      (λ t within. reading_same (row_at rows (t + 1)) year year' number number' t _ _ (is.readings.each t within) (is_other.readings.each t (omega (arith, is.count, is_other.count))))
+    year_is : year ≡ year'
+    year_is = sym (year_value (cell_in (row_at rows 1) 0) year number (digits_value 10 (take 4 (cell_in (row_at rows 1) 0))) is.month (first_start rows year number net is) refl)
+        ∙ year_value (cell_in (row_at rows 1) 0) year' number' (digits_value 10 (take 4 (cell_in (row_at rows 1) 0))) is_other.month (first_start rows year' number' net' is_other) refl
+
+    number_is : number ≡ number'
+    number_is = sym (number_value (cell_in (row_at rows 1) 0) year number (digits_value 10 (take 2 (drop 5 (cell_in (row_at rows 1) 0)))) is.month (first_start rows year number net is) refl)
+        ∙ number_value (cell_in (row_at rows 1) 0) year' number' (digits_value 10 (take 2 (drop 5 (cell_in (row_at rows 1) 0)))) is_other.month (first_start rows year' number' net' is_other) refl
+
+    net_is : net ≡ net'
+    net_is = ext_get_or (pos 0) net net' (omega (arith, is.count, is_other.count))
+        (λ t within. reading_same (row_at rows (t + 1)) year year' number number' t _ _ (is.readings.each t within) (is_other.readings.each t (omega (arith, is.count, is_other.count))))
 
 -- a battery file is one battery
 pub battery_same : (rows : List (List (List ℕ))) (one other : Storage) → IsBatteryFile rows one → IsBatteryFile rows other → one ≡ other

@@ -48,15 +48,15 @@ readings_answer files asked price one other (has_month within year number net me
 readings_answer files asked price one other (has_month within year number net means with) (has_month within2 year2 number2 net2 means2 with2) =
     let same = month_same _ year2 year number2 number net2 net means2 means in
     battery_answer files asked price year number net one other with
-        (moved year2 number2 net2 year number net same.year_is same.number_is same.net_is with2)
+    (moved year2 number2 net2 year number net same.year_is same.number_is same.net_is with2)
   where
-  moved : (y : ℤ) (n : ℕ) (w : List ℤ) (y' : ℤ) (n' : ℕ) (w' : List ℤ) → y ≡ y' → n ≡ n' → w ≡ w'
-      → IsWithBattery files asked price y n w other → IsWithBattery files asked price y' n' w' other
-  moved y n w y' n' w' ey en ew with =
-      let A : ℤ → Type 0 = λ k. IsWithBattery files asked price k n w other in
-      let B : ℕ → Type 0 = λ k. IsWithBattery files asked price y' k w other in
-      let C : List ℤ → Type 0 = λ k. IsWithBattery files asked price y' n' k other in
-      subst C ew (subst B en (subst A ey with))
+    moved : (y : ℤ) (n : ℕ) (w : List ℤ) (y' : ℤ) (n' : ℕ) (w' : List ℤ) → y ≡ y' → n ≡ n' → w ≡ w'
+        → IsWithBattery files asked price y n w other → IsWithBattery files asked price y' n' w' other
+    moved y n w y' n' w' ey en ew with =
+        let A : ℤ → Type 0 = λ k. IsWithBattery files asked price k n w other in
+        let B : ℕ → Type 0 = λ k. IsWithBattery files asked price y' k w other in
+        let C : List ℤ → Type 0 = λ k. IsWithBattery files asked price y' n' k other in
+        subst C ew (subst B en (subst A ey with))
 
 -- of one request
 record_answer : (files : Files) (asked : Asked) (one other : Answer) → IsWithRecord files asked one → IsWithRecord files asked other → one ≡ other

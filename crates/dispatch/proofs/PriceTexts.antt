@@ -152,5 +152,5 @@ price_at cell point units at text =
 pub price_text_same : (cell : List ℕ) (one other : ℕ) → IsPriceText cell one → IsPriceText cell other → one ≡ other
 price_text_same cell one other text text_other =
     let at : position is_point cell ≡ Some (length text.whole) =
-        ap (λ (t : List ℕ). position is_point t) text.form ∙ point_is text.whole text.fraction text.whole_digits in
+    ap (λ (t : List ℕ). position is_point t) text.form ∙ point_is text.whole text.fraction text.whole_digits in
     price_at cell (length text.whole) one at text ∙ sym (price_at cell (length text.whole) other at text_other)

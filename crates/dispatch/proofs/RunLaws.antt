@@ -17,9 +17,15 @@ use Rattle.dispatch.proofs.OneAnswer.{answer_same}
 pub gives_answer : (words : List (List ℕ)) (x y z : Scene) (verdict : Verdict) (text : List ℕ) → IsPrepared words x y verdict text → PrintsOnly text y z
     → Gives words x z verdict
 gives_answer words x y z verdict text prepared prints = record {
-  answer = prepared.answer; is = prepared.is; verdict_is = prepared.verdict_is;
-  answered = record { printed = prints.printed ∙ (rw (prepared.opens.printed, prepared.text_is) refl);
-    opened = prints.opened ∙ prepared.opens.opened; files = prints.files ∙ prepared.opens.files } }
+  answer = prepared.answer;
+  is = prepared.is;
+  verdict_is = prepared.verdict_is;
+  answered = record {
+    printed = prints.printed ∙ (rw (prepared.opens.printed, prepared.text_is) refl);
+    opened = prints.opened ∙ prepared.opens.opened;
+    files = prints.files ∙ prepared.opens.files;
+  };
+}
 
 -- what is prepared and printed in part is cut short
 pub cut_in_print : (words : List (List ℕ)) (x y z : Scene) (verdict : Verdict) (text : List ℕ) → IsPrepared words x y verdict text → PrintsFront text y z
@@ -29,11 +35,15 @@ cut_in_print words x y z verdict text prepared prints = record {
       subst P (answer_same words x.files prepared.answer answer prepared.is is) printed;
   opened = λ answer is. let P : Answer → Type 0 = λ a. GainsFront x.opened z.opened a.openings in
       subst P (answer_same words x.files prepared.answer answer prepared.is is) (gains_all (prints.opened ∙ prepared.opens.opened));
-  files = prints.files ∙ prepared.opens.files }
+  files = prints.files ∙ prepared.opens.files;
+}
   where
-  printed : GainsFront x.printed z.printed prepared.answer.text
-  printed = record { part = prints.printed.part; gained = prints.printed.gained ∙ ap (λ (p : List ℕ). p ++ prints.printed.part) prepared.opens.printed;
-    front = (let P : List ℕ → Type 0 = λ t. IsFront prints.printed.part t in subst P prepared.text_is prints.printed.front) }
+    printed : GainsFront x.printed z.printed prepared.answer.text
+    printed = record {
+      part = prints.printed.part;
+      gained = prints.printed.gained ∙ ap (λ (p : List ℕ). p ++ prints.printed.part) prepared.opens.printed;
+      front = (let P : List ℕ → Type 0 = λ t. IsFront prints.printed.part t in subst P prepared.text_is prints.printed.front);
+    }
 
 -- what stops before it is prepared is cut short
 pub cut_in_opening : (words : List (List ℕ)) (x y : Scene) → StopsOpening words x y → IsCutShort words x y

@@ -8,10 +8,14 @@ mod fault;
 mod least;
 mod number;
 mod plan;
+#[cfg(test)]
+mod reader_tests;
 mod readings;
 mod real;
 mod record;
 mod table;
+#[cfg(test)]
+mod tests;
 mod text;
 mod verdict;
 mod words;

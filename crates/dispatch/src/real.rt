@@ -31,6 +31,13 @@ impl<R: Files + Print + Drop> RealDesk<R> {
             faults: 0,
         }
     }
+
+    /// What it was made from. What is open is closed.
+    #[cfg(test)]
+    pub fn into_runtime(self) -> R {
+        let RealDesk { rt, .. } = self;
+        rt
+    }
 }
 
 impl<R: Files + Print + Drop> Desk for RealDesk<R> {

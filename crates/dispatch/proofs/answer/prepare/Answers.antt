@@ -27,7 +27,7 @@ returns-in_err-battery-clause-told g c t =
     let readings_read = c.in_ok-meter.ensures.told t in
     let month = files_stay (λ files. GivesMonth files (asked_of c.in-Some.request) c.in_ok-meter.meter) record_read.0 readings_read.1 in
     rw (p.1, p.2) (ends_at_battery (GivesBattery (g.D.Desk.scene c.load_readings.new.desk).files (asked_of c.in-Some.request)) _ (asked_of c.in-Some.request) c.in_ok-price.price c.in_ok-meter.meter _ _ _ _ c.in-Some.ensures
-        (opens_then record_read.0 readings_read.0) record_read.1 month (c.in_err-battery.ensures.told t))
+    (opens_then record_read.0 readings_read.0) record_read.1 month (c.in_err-battery.ensures.told t))
 
 pub returns-in_err-plan-clause-told : goal.returns-in_err-plan-clause-told
 returns-in_err-plan-clause-told g c t =
@@ -37,7 +37,7 @@ returns-in_err-plan-clause-told g c t =
     let battery_read = c.in_ok-battery.ensures.told t in
     let month = files_stay (λ files. GivesMonth files (asked_of c.in-Some.request) c.in_ok-meter.meter) record_read.0 readings_read.1 in
     rw (p.1, p.2) (ends_at_plan _ (asked_of c.in-Some.request) c.in_ok-price.price c.in_ok-meter.meter _ _ c.in-Some.ensures
-        (opens_then (opens_then record_read.0 readings_read.0) battery_read.0) record_read.1 month)
+    (opens_then (opens_then record_read.0 readings_read.0) battery_read.0) record_read.1 month)
 
 pub returns-clause-told : goal.returns-clause-told
 returns-clause-told g c t =
@@ -47,4 +47,4 @@ returns-clause-told g c t =
     let month = files_stay (λ files. GivesMonth files (asked_of c.in-Some.request) c.in_ok-meter.meter) record_read.0 readings_read.1 in
     let stored = files_stay (λ files. GivesBattery files (asked_of c.in-Some.request) c.in_ok-battery.battery) (opens_then record_read.0 readings_read.0) battery_read.1 in
     prepared_plan _ (asked_of c.in-Some.request) c.in_ok-price.price c.in_ok-meter.meter c.in_ok-battery.battery _ _ c.in_ok-plan.field-0 c.in-Some.ensures
-        (opens_then (opens_then record_read.0 readings_read.0) battery_read.0) record_read.1 month stored c.in_ok-plan.ensures
+    (opens_then (opens_then record_read.0 readings_read.0) battery_read.0) record_read.1 month stored c.in_ok-plan.ensures

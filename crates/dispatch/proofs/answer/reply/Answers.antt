@@ -16,8 +16,8 @@ returns-in_err-print_all-in-Err-Refused-clause-told g c t =
     let p = err_from_is_err_and c.from_residual-in_err-print_all-in-Err-Refused.result c.from_residual-in_err-print_all-in-Err-Refused.ensures.1 in
     let P : List ℕ → Type 0 = λ part. PrintsFront part (g.D.Desk.scene c.prepare.new.desk) (g.D.Desk.scene c.print_all-in-Err-Refused.new.desk) in
     rw p.1 (cut_in_print _ _ _ _ _ (refusal_text c.in-Err-Refused.refusal)
-        (refusal_known _ _ _ _ c.in-Err-Refused.refusal c.in-Err-Refused.refusal c.in-Err-Refused.field-0-is refl (c.in-Err-Refused.ensures.told t))
-        (subst P (c.as_bytes.ensures.value ∙ c.text.ensures) (c.in_err-print_all-in-Err-Refused.ensures.cut_short t)))
+    (refusal_known _ _ _ _ c.in-Err-Refused.refusal c.in-Err-Refused.refusal c.in-Err-Refused.field-0-is refl (c.in-Err-Refused.ensures.told t))
+    (subst P (c.as_bytes.ensures.value ∙ c.text.ensures) (c.in_err-print_all-in-Err-Refused.ensures.cut_short t)))
 
 pub returns-in-Err-Failed-clause-told : goal.returns-in-Err-Failed-clause-told
 returns-in-Err-Failed-clause-told g c t = cut_by_fault _ _ _ c.in-Err-Failed.field-0 Failed c.in-Err-Failed.field-0-is (c.in-Err-Failed.ensures.told t) (λ stops. stops)

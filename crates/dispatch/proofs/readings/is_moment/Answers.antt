@@ -23,8 +23,7 @@ returns-in_default-behind c = (
 
 pub returns-then-is_between : goal.returns-then-is_between
 returns-then-is_between c =
-    let at = whole (goal.at.returns-then-is_between c).In-Some-behind in
-    (
+    let at = whole (goal.at.returns-then-is_between c).In-Some-behind in (
       λ e. record {
         between = c.in-Some-split_first.between.now;
         seconds = c.in-Some-behind.seconds.now;
