@@ -1,5 +1,5 @@
 -- The parts of a start's text.
-use Rattle.std.proofs.Common.{◌≡◌, ◌⊎◌, ℕ, ◌+◌, ◌*◌, ◌/◌, ◌%◌, List, [], ◌∷◌, ◌++◌, length, take, drop, Option, None, Some, Bor, bytes_eq, MatchOption, IfNone, IfSome, Bool, true, false, codes, refl, sym, ap, ◌∙◌, arith, subst, ℤ, FitsSigned, ◌<◌, ◌^◌}
+use Rattle.std.proofs.Common.{◌≡◌, ℕ, ◌+◌, List, ◌∷◌, ◌++◌, length, take, drop, Option, None, Some, Bor, bytes_eq, MatchOption, IfNone, IfSome, true, false, refl, sym, ap, ◌∙◌, arith, ℤ, FitsSigned, ◌<◌, ◌^◌}
 use Rattle.std.proofs.lemmas.List.{append_cancel_left, take_at, take-append-drop}
 use Rattle.std.proofs.lemmas.Slice.Eq.{bytes_eq-Decides}
 use Rattle.std.proofs.lemmas.Fmt.{signed_decimal_injective}

@@ -1,9 +1,9 @@
 -- The rows of a readings file.
-use Rattle.std.proofs.Common.{◌≡◌, ℕ, ◌+◌, ◌*◌, ◌<◌, ℤ, pos, List, [], ◌∷◌, ◌++◌, length, slice_index_or, length-append, refl, sym, ap, ◌∙◌, arith, subst, inl, inr}
+use Rattle.std.proofs.Common.{◌≡◌, ℕ, ◌+◌, ◌*◌, ℤ, List, length, sym, ap, arith, subst}
 use Rattle.jiff_core.specs.Calendar.{days_in_month}
 use Rattle.jiff_core.proofs.CalendarLemmas.{days_in_month_bounds}
 use Rattle.dispatch.specs.Table.{row_at, cell_in}
-use Rattle.dispatch.specs.ReadingsFile.{IsReadingsFile, AreReadingRows, IsReadingRow, IsStartText}
+use Rattle.dispatch.specs.ReadingsFile.{IsReadingsFile, IsStartText}
 
 -- the first row behind the header is the start of the month
 pub first_start : (rows : List (List (List ℕ))) (year : ℤ) (number : ℕ) (net : List ℤ) → IsReadingsFile rows year number net
