@@ -109,7 +109,8 @@ fn fill(ways: &Ways, rows: &mut [Vec<Pot>])
 /// Makes each entry of the layers the least cost from its level at its interval to an allowed end, over all ways, or `NoWay`
 /// where no way leads there. Row t has the costs from interval t on, and the last row those at the month's end.
 ///
-/// It takes no memory.
+/// There is one row more than intervals, one column a level, and one cost per interval and move. There are 1 to 64 moves and at most
+/// 10^4 intervals, and each cost is `NoWay` or at most 10^32 units in size, so no sum leaves the range of money. It takes no memory.
 pub fn backward(ways: &Ways, layers: &mut Layers)
     requires sound { IsSound (arcs_of ways.now) }
     requires rows { length layers.old ≡ intervals_of (arcs_of ways.now) + 1 }

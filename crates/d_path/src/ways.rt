@@ -14,9 +14,12 @@ pub struct Move {
 }
 
 /// The intervals of a month, and the moves that there are in each.
+///
+/// A way takes one move per interval: none that may not be used, each begun in its range of levels, each level after it from `floor`
+/// to `capacity`, and the last level at least `end`. This is our own rule.
 #[derive(Clone, Copy, Debug)]
 pub struct Ways<'a> {
-    /// What each move costs in each interval, interval by interval; `NoWay` marks a move that may not be used there.
+    /// What each move costs in each interval, in money, interval by interval; `NoWay` marks a move that may not be used there.
     pub costs: &'a [Pot],
     /// The moves, by their numbers.
     pub moves: &'a [Move],

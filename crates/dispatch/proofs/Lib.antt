@@ -2,6 +2,7 @@ pub mod NineWords
 pub mod Blanks
 pub mod Marks
 pub mod TableFacts
+pub mod CsvRecords
 pub mod PrintFacts
 pub mod Decimals
 pub mod WholeTexts
@@ -9,3 +10,14 @@ pub mod PriceTexts
 pub mod Moments
 pub mod MonthTexts
 pub mod ReadingsFacts
+pub mod PriceLaws
+pub mod PlanArcs
+pub mod PlanSteps
+pub mod FeasibleWays
+pub mod LeastWays
+pub mod StageFacts
+pub mod AnswerFacts
+pub mod AnswerLaws
+pub mod FileLaws
+pub mod OneAnswer
+pub mod RunLaws

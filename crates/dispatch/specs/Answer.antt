@@ -56,16 +56,6 @@ opens_all asked = opening In asked.records ∷ opening In asked.readings ∷ ope
 abbrev pub refused : Refusal → List Opening → Answer
 refused refusal openings = record { verdict = refusal_verdict refusal; text = refusal_text refusal; openings = openings }
 
--- a file fits where it is no longer than its limit: 2^30 bytes for the record file, 2^24 bytes for the others
-abbrev pub FitsRecord : Files → Asked → Type 0
-FitsRecord files asked = length (bytes_in files asked.records) ≤ 2 ^ 30
-
-abbrev pub FitsReadings : Files → Asked → Type 0
-FitsReadings files asked = length (bytes_in files asked.readings) ≤ 2 ^ 24
-
-abbrev pub FitsBattery : Files → Asked → Type 0
-FitsBattery files asked = length (bytes_in files asked.battery) ≤ 2 ^ 24
-
 -- what each file means
 abbrev pub MeansPrice : Files → Asked → ℕ → Type 0
 MeansPrice files asked price = IsRecord (rows_of (bytes_in files asked.records)) asked.label price
@@ -76,54 +66,46 @@ MeansMonth files asked year number net = IsReadingsFile (rows_of (bytes_in files
 abbrev pub MeansBattery : Files → Asked → Storage → Type 0
 MeansBattery files asked storage = IsBatteryFile (rows_of (bytes_in files asked.battery)) storage
 
--- the record file fits and has a price
-pub record HasPrice (files : Files) (asked : Asked) : Type 0 where
-  pub fits : FitsRecord files asked
-  pub price : ℕ
-  pub means : MeansPrice files asked price
+-- what a plan is made for: the price, a month of hourly readings and a battery
+abbrev pub hourly_inputs : ℕ → ℤ → ℕ → List ℤ → Storage → Inputs
+hourly_inputs price year number net storage = record { year = year; number = number; minutes = 60; net = net; price = pos price; storage = storage }
 
--- and the readings fit and are a month's
-pub record HasMonth (files : Files) (asked : Asked) : Type 0 where
-  pub priced : HasPrice files asked
-  pub fits : FitsReadings files asked
-  pub year : ℤ
-  pub number : ℕ
-  pub net : List ℤ
-  pub means : MeansMonth files asked year number net
+-- the answer where the plan is made for these inputs: that no schedule is feasible, or the first least schedule
+pub data IsPlanned (inputs : Inputs) (asked : Asked) (answer : Answer) : Type 0 where
+  no_schedule : ((schedule : List ℕ) → IsFeasible inputs schedule → ⊥)
+      → answer ≡ record { verdict = verdict.NoSchedule; text = line (codes "no schedule"); openings = opens_all asked } → IsPlanned inputs asked answer
+  least : (schedule : List ℕ) → IsFirstLeast inputs schedule
+      → answer ≡ record { verdict = verdict.Done; text = plan_text inputs asked.label schedule; openings = opens_all asked } → IsPlanned inputs asked answer
 
--- the three files fit and are what this plan is made for
-pub record IsInputs (files : Files) (asked : Asked) (inputs : Inputs) : Type 0 where
-  pub fits_record : FitsRecord files asked
-  pub fits_readings : FitsReadings files asked
-  pub fits_battery : FitsBattery files asked
-  pub price : ℕ
-  pub price_is : inputs.price ≡ pos price
-  pub record_means : MeansPrice files asked price
-  pub minutes : inputs.minutes ≡ 60
-  pub readings_mean : MeansMonth files asked inputs.year inputs.number inputs.net
-  pub battery_means : MeansBattery files asked inputs.storage
+-- the answer where record and readings are known: by the battery file, which has at most 2^24 bytes
+pub data IsWithBattery (files : Files) (asked : Asked) (price : ℕ) (year : ℤ) (number : ℕ) (net : List ℤ) (answer : Answer) : Type 0 where
+  battery_too_long : 2 ^ 24 < length (bytes_in files asked.battery) → answer ≡ refused LongBattery (opens_all asked)
+      → IsWithBattery files asked price year number net answer
+  no_battery : length (bytes_in files asked.battery) ≤ 2 ^ 24 → ((storage : Storage) → MeansBattery files asked storage → ⊥)
+      → answer ≡ refused Battery (opens_all asked) → IsWithBattery files asked price year number net answer
+  has_battery : length (bytes_in files asked.battery) ≤ 2 ^ 24 → (storage : Storage) → MeansBattery files asked storage
+      → IsPlanned (hourly_inputs price year number net storage) asked answer → IsWithBattery files asked price year number net answer
 
--- The first of these that applies is the answer: the words aren't a request; the record file is too long or has no price;
--- the readings are too long or no month; the battery is too long or none; no schedule is feasible; the first least schedule.
+-- the answer where the record is known: by the readings file, which has at most 2^24 bytes
+pub data IsWithReadings (files : Files) (asked : Asked) (price : ℕ) (answer : Answer) : Type 0 where
+  readings_too_long : 2 ^ 24 < length (bytes_in files asked.readings) → answer ≡ refused LongReadings (opens_readings asked)
+      → IsWithReadings files asked price answer
+  no_month : length (bytes_in files asked.readings) ≤ 2 ^ 24
+      → ((year : ℤ) (number : ℕ) (net : List ℤ) → MeansMonth files asked year number net → ⊥)
+      → answer ≡ refused Readings (opens_readings asked) → IsWithReadings files asked price answer
+  has_month : length (bytes_in files asked.readings) ≤ 2 ^ 24 → (year : ℤ) (number : ℕ) (net : List ℤ) → MeansMonth files asked year number net
+      → IsWithBattery files asked price year number net answer → IsWithReadings files asked price answer
+
+-- the answer to a request: by the record file first, which has at most 2^30 bytes
+pub data IsWithRecord (files : Files) (asked : Asked) (answer : Answer) : Type 0 where
+  record_too_long : 2 ^ 30 < length (bytes_in files asked.records) → answer ≡ refused LongRecord (opens_record asked)
+      → IsWithRecord files asked answer
+  no_price : length (bytes_in files asked.records) ≤ 2 ^ 30 → ((price : ℕ) → MeansPrice files asked price → ⊥)
+      → answer ≡ refused Record (opens_record asked) → IsWithRecord files asked answer
+  has_price : length (bytes_in files asked.records) ≤ 2 ^ 30 → (price : ℕ) → MeansPrice files asked price
+      → IsWithReadings files asked price answer → IsWithRecord files asked answer
+
+-- the answer to a list of words: they are no request, and nothing is opened; or they are, and the files decide
 pub data IsAnswer (words : List (List ℕ)) (files : Files) (answer : Answer) : Type 0 where
   no_request : ((asked : Asked) → IsRequest words asked → ⊥) → answer ≡ refused Words [] → IsAnswer words files answer
-  long_record : (asked : Asked) → IsRequest words asked → 2 ^ 30 < length (bytes_in files asked.records)
-      → answer ≡ refused LongRecord (opens_record asked) → IsAnswer words files answer
-  no_record : (asked : Asked) → IsRequest words asked → FitsRecord files asked → ((price : ℕ) → MeansPrice files asked price → ⊥)
-      → answer ≡ refused Record (opens_record asked) → IsAnswer words files answer
-  long_readings : (asked : Asked) → IsRequest words asked → HasPrice files asked → 2 ^ 24 < length (bytes_in files asked.readings)
-      → answer ≡ refused LongReadings (opens_readings asked) → IsAnswer words files answer
-  no_readings : (asked : Asked) → IsRequest words asked → HasPrice files asked → FitsReadings files asked
-      → ((year : ℤ) (number : ℕ) (net : List ℤ) → MeansMonth files asked year number net → ⊥)
-      → answer ≡ refused Readings (opens_readings asked) → IsAnswer words files answer
-  long_battery : (asked : Asked) → IsRequest words asked → HasMonth files asked → 2 ^ 24 < length (bytes_in files asked.battery)
-      → answer ≡ refused LongBattery (opens_all asked) → IsAnswer words files answer
-  no_battery : (asked : Asked) → IsRequest words asked → HasMonth files asked → FitsBattery files asked
-      → ((storage : Storage) → MeansBattery files asked storage → ⊥)
-      → answer ≡ refused Battery (opens_all asked) → IsAnswer words files answer
-  no_schedule : (asked : Asked) (inputs : Inputs) → IsRequest words asked → IsInputs files asked inputs
-      → ((schedule : List ℕ) → IsFeasible inputs schedule → ⊥)
-      → answer ≡ record { verdict = verdict.NoSchedule; text = line (codes "no schedule"); openings = opens_all asked } → IsAnswer words files answer
-  least : (asked : Asked) (inputs : Inputs) (schedule : List ℕ) → IsRequest words asked → IsInputs files asked inputs
-      → IsFirstLeast inputs schedule
-      → answer ≡ record { verdict = verdict.Done; text = plan_text inputs asked.label schedule; openings = opens_all asked } → IsAnswer words files answer
+  request : (asked : Asked) → IsRequest words asked → IsWithRecord files asked answer → IsAnswer words files answer

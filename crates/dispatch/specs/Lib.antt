@@ -10,3 +10,5 @@ pub mod Answer
 pub mod Replies
 pub mod Runs
 pub mod PlainFront
+pub mod PlanWays
+pub mod StageResults

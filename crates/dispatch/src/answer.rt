@@ -1,8 +1,12 @@
 //! The top call: from the words to the printed plan.
 
-ghost use Rattle.std.specs.Prelude.{◌≡◌, ℕ, ◌≤◌, ◌^◌, map, string_bytes, Result, IfOk};
+ghost use Rattle.std.specs.Prelude.{◌≡◌, ℕ, ◌≤◌, ◌^◌, [], ◌∷◌, map, string_bytes, IsErrOf, IfOk};
 ghost use Rattle.d_desk.specs.Cause.{Rose, HasCause};
 ghost use Rattle.dispatch.specs.Runs.{Runs, status_of};
+ghost use Rattle.dispatch.specs.Asking.{asked_of};
+ghost use Rattle.dispatch.specs.StageResults.{IsStage, AreWithin, IsTooLong, GivesPrice, GivesMonth, GivesBattery, RefusesRecord, RefusesReadings, RefusesBattery, Prepares, Replies, fault_of};
+ghost use Rattle.d_desk.specs.Scene.{opening, bytes_in};
+ghost use Rattle.d_desk.specs.declared.opened.Direction.TheVariants.{In};
 
 use crate::battery::read_battery;
 use crate::fault::{Fault, ReadFault, Refusal};
@@ -49,7 +53,10 @@ fn status_of(verdict: Verdict) -> Status
 }
 
 /// Prepares the answer and prints it.
-fn reply<D: Desk>(alloc: Global, words: &[String], desk: &mut D) -> Result<Verdict, DeskFault> {
+fn reply<D: Desk>(alloc: Global, words: &[String], desk: &mut D) -> Result<Verdict, DeskFault>
+    ensures told { D.tells → Replies (map string_bytes words.now) (D.scene desk.old) (D.scene desk.new) result }
+    ensures cause { HasCause (D.faults desk.old) (D.faults desk.new) result }
+{
     match prepare(alloc, words, desk) {
         Ok(reply) => {
             print_all(desk, reply.text.as_slice())?;
@@ -65,7 +72,11 @@ fn reply<D: Desk>(alloc: Global, words: &[String], desk: &mut D) -> Result<Verdi
 }
 
 /// Reads what the words name and plans. Nothing is printed yet.
-fn prepare<D: Desk>(alloc: Global, words: &[String], desk: &mut D) -> Result<Reply, Fault> {
+fn prepare<D: Desk>(alloc: Global, words: &[String], desk: &mut D) -> Result<Reply, Fault>
+    ensures told { D.tells → Prepares (map string_bytes words.now) (D.scene desk.old) (D.scene desk.new) result }
+    ensures later { D.faults desk.old ≤ D.faults desk.new }
+    ensures failed { IsErrOf result Fault.Failed → Rose (D.faults desk.old) (D.faults desk.new) }
+{
     let Some(request) = read_words(words) else {
         return Err(Fault::Refused(Refusal::Words));
     };
@@ -76,7 +87,11 @@ fn prepare<D: Desk>(alloc: Global, words: &[String], desk: &mut D) -> Result<Rep
 }
 
 /// The price of the record that the request names.
-fn load_record<D: Desk>(alloc: Global, desk: &mut D, request: &Request<'_>) -> Result<Rate, Fault> {
+fn load_record<D: Desk>(alloc: Global, desk: &mut D, request: &Request<'_>) -> Result<Rate, Fault>
+    ensures told { D.tells → IsStage (opening In request.now.records.now ∷ []) (GivesPrice (D.scene desk.old).files (asked_of request.now)) (RefusesRecord (D.scene desk.old).files (asked_of request.now)) (D.scene desk.old) (D.scene desk.new) result }
+    ensures later { D.faults desk.old ≤ D.faults desk.new }
+    ensures failed { IsErrOf result Fault.Failed → Rose (D.faults desk.old) (D.faults desk.new) }
+{
     let bytes = load(
         alloc,
         desk,
@@ -95,7 +110,11 @@ fn load_readings<D: Desk>(
     alloc: Global,
     desk: &mut D,
     request: &Request<'_>,
-) -> Result<Meter, Fault> {
+) -> Result<Meter, Fault>
+    ensures told { D.tells → IsStage (opening In request.now.readings.now ∷ []) (GivesMonth (D.scene desk.old).files (asked_of request.now)) (RefusesReadings (D.scene desk.old).files (asked_of request.now)) (D.scene desk.old) (D.scene desk.new) result }
+    ensures later { D.faults desk.old ≤ D.faults desk.new }
+    ensures failed { IsErrOf result Fault.Failed → Rose (D.faults desk.old) (D.faults desk.new) }
+{
     let bytes = load(
         alloc,
         desk,
@@ -114,7 +133,11 @@ fn load_battery<D: Desk>(
     alloc: Global,
     desk: &mut D,
     request: &Request<'_>,
-) -> Result<Battery, Fault> {
+) -> Result<Battery, Fault>
+    ensures told { D.tells → IsStage (opening In request.now.battery.now ∷ []) (GivesBattery (D.scene desk.old).files (asked_of request.now)) (RefusesBattery (D.scene desk.old).files (asked_of request.now)) (D.scene desk.old) (D.scene desk.new) result }
+    ensures later { D.faults desk.old ≤ D.faults desk.new }
+    ensures failed { IsErrOf result Fault.Failed → Rose (D.faults desk.old) (D.faults desk.new) }
+{
     let bytes = load(
         alloc,
         desk,
@@ -137,6 +160,9 @@ fn load<D: Desk>(
     too_long: Refusal,
 ) -> Result<Vec<u8>, Fault>
     requires { limit ≤ 2 ^ 30 }
+    ensures told { D.tells → IsStage (opening In name.now ∷ []) (AreWithin (D.scene desk.old).files name.now limit) (IsTooLong (D.scene desk.old).files name.now limit too_long) (D.scene desk.old) (D.scene desk.new) result }
+    ensures later { D.faults desk.old ≤ D.faults desk.new }
+    ensures failed { IsErrOf result Fault.Failed → Rose (D.faults desk.old) (D.faults desk.new) }
 {
     match load_file(alloc, desk, name, limit) {
         Ok(bytes) => Ok(bytes),
@@ -147,7 +173,9 @@ fn load<D: Desk>(
 }
 
 /// A reader's fault, as a fault of the run.
-fn refused(fault: ReadFault, refusal: Refusal) -> Fault {
+fn refused(fault: ReadFault, refusal: Refusal) -> Fault
+    ensures { result ≡ fault_of fault refusal }
+{
     match fault {
         ReadFault::Refused => Fault::Refused(refusal),
         ReadFault::Memory => Fault::Memory,

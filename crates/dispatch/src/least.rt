@@ -1,9 +1,11 @@
 //! The first least schedule of a problem, found over the ways of its battery's modes.
 
-ghost use Rattle.std.specs.Prelude.{◌≡◌, ℕ, List, ◌∷◌, MatchOption, IfOk};
+ghost use Rattle.std.specs.Prelude.{◌≡◌, ◌<◌, ◌≤◌, ℕ, List, ◌∷◌, length, map, MatchOption, IfOk};
 ghost use Rattle.d_model.specs.Shown.{inputs_of};
 ghost use Rattle.d_model.specs.Schedules.{IsFeasible};
 ghost use Rattle.d_model.specs.Bills.{IsFirstLeast};
+ghost use Rattle.d_path.specs.Arcs.{arcs_of};
+ghost use Rattle.dispatch.specs.PlanWays.{mode_cost, mode_costs, move_of};
 
 use d_model::{Battery, Mode, Problem};
 use d_num::{NoMemory, Pot};
@@ -34,7 +36,9 @@ pub fn least_schedule(alloc: Global, problem: &Problem) -> Result<Option<Vec<u8>
 }
 
 /// The ways of a battery at these costs and moves.
-fn ways_of<'a>(battery: &Battery, costs: &'a [Pot], moves: &'a [Move]) -> Ways<'a> {
+fn ways_of<'a>(battery: &Battery, costs: &'a [Pot], moves: &'a [Move]) -> Ways<'a>
+    ensures { arcs_of result ≡ record { costs = costs.now; moves = moves.now; floor = battery.now.floor; capacity = battery.now.capacity; start = battery.now.start; end = battery.now.end } }
+{
     Ways {
         costs,
         moves,
@@ -46,7 +50,9 @@ fn ways_of<'a>(battery: &Battery, costs: &'a [Pot], moves: &'a [Move]) -> Ways<'
 }
 
 /// What each mode costs in each interval, interval by interval.
-fn costs_of(alloc: Global, problem: &Problem) -> Result<Vec<Pot>, NoMemory> {
+fn costs_of(alloc: Global, problem: &Problem) -> Result<Vec<Pot>, NoMemory>
+    ensures { IfOk result (λ costs. costs.items ≡ mode_costs (inputs_of problem.now)) }
+{
     let modes = problem.battery().modes.len();
     let count = problem.intervals() as usize * modes;
     let mut costs = Vec::with_capacity(alloc, count)?;
@@ -57,7 +63,11 @@ fn costs_of(alloc: Global, problem: &Problem) -> Result<Vec<Pot>, NoMemory> {
 }
 
 /// What a mode costs in an interval: its import at the price, or no way where the battery's limits don't allow it.
-fn cost_of(problem: &Problem, interval: u32, mode: u8) -> Pot {
+fn cost_of(problem: &Problem, interval: u32, mode: u8) -> Pot
+    requires interval { interval < length (inputs_of problem.now).net }
+    requires mode { mode < length (inputs_of problem.now).storage.modes }
+    ensures { result ≡ mode_cost (inputs_of problem.now) interval mode }
+{
     match problem.arc(interval, mode) {
         Some(arc) => Pot::To(problem.price().times(arc.import.value())),
         None => Pot::NoWay,
@@ -65,7 +75,9 @@ fn cost_of(problem: &Problem, interval: u32, mode: u8) -> Pot {
 }
 
 /// How the modes move the battery's level.
-fn moves_of(alloc: Global, modes: &[Mode]) -> Result<Vec<Move>, NoMemory> {
+fn moves_of(alloc: Global, modes: &[Mode]) -> Result<Vec<Move>, NoMemory>
+    ensures { IfOk result (λ moves. moves.items ≡ map move_of modes.now) }
+{
     let mut moves = Vec::with_capacity(alloc, modes.len())?;
     for mode in modes {
         moves.push(Move {

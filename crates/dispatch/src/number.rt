@@ -1,6 +1,10 @@
 //! Numbers as the files write them.
 
+<<<<<<< HEAD
 ghost use Rattle.std.specs.Prelude.{◌≡◌, ℕ, ◌≤◌, ℤ, pos, length, FitsSigned, IfNone, IfSome, IsTrue, ◌↔◌};
+=======
+ghost use Rattle.std.specs.Prelude.{◌≡◌, ℕ, ◌+◌, ◌-◌, ◌*◌, ◌^◌, ◌<◌, ◌≤◌, ◌==◌, ℤ, pos, length, take, drop, position, FitsSigned, IfNone, IfSome, IsTrue, ◌↔◌};
+>>>>>>> 9c5905ebea8e676575c7bd1fba6c07e6c5191b70
 ghost use Rattle.std.specs.Int.{w64};
 ghost use Rattle.std.specs.Str.Parse.{IsNumeral, digits_value};
 ghost use Rattle.dispatch.specs.Number.{IsWholeText, IsPriceText};
@@ -10,9 +14,9 @@ use d_num::Rate;
 use std::str;
 
 // How many units of 10^-18 USD make one USD, and the greatest price of energy in USD per kWh.
-const UNITS_PER_USD: i128 = 1_000_000_000_000_000_000;
+const UNITS_PER_USD: u128 = 1_000_000_000_000_000_000;
 
-const GREATEST_PRICE: i128 = 1000;
+const GREATEST_PRICE: u128 = 1000;
 
 /// The number whose whole text the cell is: 0, or a minus where it is negative and its digits with no zero in front. None exactly
 /// where it is that of no number of 64 bits.
@@ -51,16 +55,62 @@ pub fn read_price(cell: &[u8]) -> Option<Rate>
     ensures none { IfNone result ((units : ℕ) → IsPriceText cell.now units → ⊥) }
     ensures some { IfSome result (λ rate. (units : ℕ) × (rate ≡ pos units) × IsPriceText cell.now units) }
 {
-    let point = cell.iter().position(|byte| *byte == b'.')?;
-    let whole = read_digits(&cell[..point], 4)?;
-    let fraction = &cell[point + 1..];
-    let decimals = read_digits(fraction, 18)?;
-    let finer = 10i128.pow(18 - fraction.len() as u32);
-    let units = whole as i128 * UNITS_PER_USD + decimals as i128 * finer;
+    let Some(point) = point_of(cell) else {
+        return None;
+    };
+    let Some(whole) = read_digits(before(cell, point), 4) else {
+        return None;
+    };
+    let fraction = behind(cell, point);
+    let Some(decimals) = read_digits(fraction, 18) else {
+        return None;
+    };
+    rate_of(units_of(whole, decimals, fraction.len()))
+}
+
+/// The place of the first point.
+fn point_of(cell: &[u8]) -> Option<usize>
+    ensures place { result ≡ position (λ byte. byte == 46) cell.now }
+    ensures within { IfSome result (λ place. place < length cell.now) }
+{
+    cell.iter().position(|byte| *byte == b'.')
+}
+
+/// What stands before a place.
+fn before(cell: &[u8], place: usize) -> &[u8]
+    requires { place < length cell.now }
+    ensures { result.now ≡ take place cell.now }
+{
+    &cell[..place]
+}
+
+/// What stands behind a place.
+fn behind(cell: &[u8], place: usize) -> &[u8]
+    requires { place < length cell.now }
+    ensures { result.now ≡ drop (place + 1) cell.now }
+{
+    &cell[place + 1..]
+}
+
+/// The units of 10^-18 USD in a whole number of USD and in decimals of so many places.
+fn units_of(whole: u64, decimals: u64, places: usize) -> u128
+    requires whole { whole < 10 ^ 4 }
+    requires decimals { decimals < 10 ^ 18 }
+    requires places { places ≤ 18 }
+    ensures { result ≡ whole * 10 ^ 18 + decimals * 10 ^ (18 - places) }
+{
+    whole as u128 * UNITS_PER_USD + decimals as u128 * 10u128.pow(18 - places as u32)
+}
+
+/// The price of so many units, or None exactly where it is above 1000 USD.
+fn rate_of(units: u128) -> Option<Rate>
+    ensures none { IfNone result (1000 * 10 ^ 18 < units) }
+    ensures some { IfSome result (λ rate. (rate ≡ pos units) × (units ≤ 1000 * 10 ^ 18)) }
+{
     if units > GREATEST_PRICE * UNITS_PER_USD {
         return None;
     }
-    Rate::new(units)
+    Rate::new(units as i128)
 }
 
 /// The number that the digits write, or None exactly where there is none, more than so many, or a byte that is no digit.

@@ -1,0 +1,24 @@
+-- A file means one thing at most.
+use Rattle.std.proofs.Common.{◌≡◌, ℕ, ℤ, List}
+use Rattle.d_model.specs.Storage.{Storage}
+use Rattle.dispatch.specs.Record.{IsRecord}
+use Rattle.dispatch.specs.ReadingsFile.{IsReadingsFile}
+use Rattle.dispatch.specs.BatteryFile.{IsBatteryFile}
+
+-- a record has one price
+pub price_same : (rows : List (List (List ℕ))) (label : List ℕ) (one other : ℕ) → IsRecord rows label one → IsRecord rows label other → one ≡ other
+price_same rows label one other is is_other = ?
+
+-- a readings file is one month's, with one list of readings
+pub record SameMonth (year year' : ℤ) (number number' : ℕ) (net net' : List ℤ) : Type 0 where
+  pub year_is : year ≡ year'
+  pub number_is : number ≡ number'
+  pub net_is : net ≡ net'
+
+pub month_same : (rows : List (List (List ℕ))) (year year' : ℤ) (number number' : ℕ) (net net' : List ℤ) → IsReadingsFile rows year number net
+    → IsReadingsFile rows year' number' net' → SameMonth year year' number number' net net'
+month_same rows year year' number number' net net' is is_other = ?
+
+-- a battery file is one battery
+pub battery_same : (rows : List (List (List ℕ))) (one other : Storage) → IsBatteryFile rows one → IsBatteryFile rows other → one ≡ other
+battery_same rows one other is is_other = ?
