@@ -21,3 +21,5 @@ pub mod AnswerLaws
 pub mod FileLaws
 pub mod OneAnswer
 pub mod RunLaws
+pub mod EntryFacts
+pub mod NoValues

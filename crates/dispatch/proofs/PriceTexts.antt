@@ -1,13 +1,6 @@
 -- Prices and their texts.
 use Rattle.std.proofs.Common.{◌≡◌, ◌≢◌, ℕ, zero, suc, ◌+◌, ◌-◌, ◌*◌, ◌^◌, ◌<◌, ◌≤◌, List, [], ◌∷◌, ◌++◌, length, drop, get_or, Result, Ok, Err, arith, rules, refl, sym, ap, ◌∙◌, subst, inl, inr}
-<<<<<<< HEAD
-use Rattle.std.specs.Str.{IsUtf8}
-use Rattle.std.specs.Str.Parse.{AllDigits, IsNumeral, digits_value, without_leading_plus}
-use Rattle.std.proofs.lemmas.Str.{IsUtf8-from_ascii}
-use Rattle.std.proofs.lemmas.Str.Parse.{IsNumeralModel, numerals_by_value, tells_digits, digit_at, parse_plain, digits_value_short}
-use Rattle.std.proofs.lemmas.Fmt.{IsAscii-from_digits}
-=======
-use Rattle.std.proofs.Common.{Bool, true, false, ◌==◌, IfNone, Option, Some, None, position, take, length-append, add-one, nat_lt}
+use Rattle.std.proofs.Common.{Bool, true, false, ◌==◌, Option, Some, None, position, take, length-append, add-one, nat_lt}
 use Rattle.std.specs.List.{position_or_len}
 use Rattle.std.specs.Str.{IsUtf8}
 use Rattle.std.specs.Str.Parse.{AllDigits, IsNumeral, digits_value, without_leading_plus}
@@ -22,7 +15,6 @@ use Rattle.std.proofs.lemmas.Str.Parse.{IsNumeralModel, numerals_by_value, tells
 use Rattle.std.proofs.lemmas.Fmt.{IsAscii-from_digits}
 use Rattle.dispatch.specs.Number.{IsPriceText}
 use Rattle.dispatch.proofs.TableFacts.{position_at}
->>>>>>> 9c5905ebea8e676575c7bd1fba6c07e6c5191b70
 
 own : IsNumeralModel (AllDigits 10) (digits_value 10)
 own = numerals_by_value (AllDigits 10) tells_digits
@@ -31,13 +23,6 @@ own = numerals_by_value (AllDigits 10) tells_digits
 pub IsUtf8-digits : (ds : List ℕ) → IsNumeral 10 ds → IsUtf8 ds
 IsUtf8-digits ds numeral = IsUtf8-from_ascii ds (IsAscii-from_digits ds numeral.1)
 
-<<<<<<< HEAD
--- and no plus stands in front of them
-pub digits_plain : (ds : List ℕ) → IsNumeral 10 ds → get_or ds 0 0 ≢ 43
-digits_plain ds numeral = λ e. omega (arith, digit_at ds 0 numeral.1 numeral.0)
-
-=======
->>>>>>> 9c5905ebea8e676575c7bd1fba6c07e6c5191b70
 -- what parses as no number of 64 bits is no numeral of 18 digits
 pub digits_none : (ds text : List ℕ) → text ≡ ds → ¬ (IsNumeral 10 (without_leading_plus text) × (digits_value 10 (without_leading_plus text) < 2 ^ 64))
     → get_or ds 0 0 ≢ 43 → IsNumeral 10 ds → length ds ≤ 18 → ⊥
@@ -46,16 +31,6 @@ digits_none ds text same bad plain numeral few =
     let short = digits_value_short own ds 18 numeral.1 few in
     subst (λ (t : List ℕ). AllDigits 10 t × (0 < length t) × (digits_value 10 t < 2 ^ 64) → ⊥) same refused (numeral.1, numeral.0, omega arith)
 
-<<<<<<< HEAD
--- and what does is its value
-pub digits_some : (ds text : List ℕ) (n : ℕ) → text ≡ ds
-    → (IsNumeral 10 (without_leading_plus text) × (digits_value 10 (without_leading_plus text) < 2 ^ 64)) × (n ≡ digits_value 10 (without_leading_plus text))
-    → get_or ds 0 0 ≢ 43 → IsNumeral 10 ds × (n ≡ digits_value 10 ds)
-digits_some ds text n same good plain =
-    let read = parse_plain own {E = ℕ} 64 text (Ok n) good (subst (λ (t : List ℕ). get_or t 0 0 ≢ 43) (sym same) plain) in
-    let whole : IsNumeral 10 text × (n ≡ digits_value 10 text) = ((read.0.1, read.0.0), read.1) in
-    subst (λ (t : List ℕ). IsNumeral 10 t × (n ≡ digits_value 10 t)) same whole
-=======
 abbrev is_point : ℕ → Bool
 is_point byte = byte == 46
 
@@ -166,9 +141,3 @@ price_some cell front back point whole decimals units at front_is back_is whole_
     let w = rw front_is at whole_is in
     let d = rw back_is at decimals_is in
     rw same (price_text cell point at w.0 w.1 d.0 d.1 (rw same at limit))
-
--- what follows from what is known where there is no value
-pub IfNone_then : {A : Type 0} (o : Option A) {P Q : Type 0} → IfNone o P → (P → Q) → IfNone o Q
-IfNone_then None known then = then known
-IfNone_then (Some x) known then = tt
->>>>>>> 9c5905ebea8e676575c7bd1fba6c07e6c5191b70

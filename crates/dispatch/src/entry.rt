@@ -1,6 +1,8 @@
 //! What a row of a battery file says.
 
-ghost use Rattle.std.specs.Prelude.{◌≡◌, ◌↔◌, ℕ, ℤ, pos, ◌<◌, length, ◌≤◌, codes, IsTrue, IfNone, IfSome};
+ghost use Rattle.std.specs.Prelude.{◌≡◌, ◌↔◌, ℕ, ◌^◌, ◌<◌, ◌≤◌, ℤ, pos, ◌≤ℤ◌, length, codes, IsTrue, IfNone, IfSome};
+ghost use Rattle.d_num.specs.Amount.{IsWithin};
+ghost use Rattle.dispatch.specs.Number.{IsWholeText};
 ghost use Rattle.dispatch.specs.Table.{row_at, cell_in};
 ghost use Rattle.dispatch.specs.BatteryFile.{IsEntry, IsLevelText, IsModeName, setting_name, setting_limit};
 ghost use Rattle.dispatch.specs.declared.entry.Entry.{Entry};
@@ -59,11 +61,21 @@ fn read_setting(table: &Table, row: usize) -> Option<Entry>
     ensures some { IfSome result (IsEntry (row_at table.now row)) }
 {
     let setting = setting_of(table.cell(row, 1))?;
-    let value = read_whole(table.cell(row, 2))?;
-    if value < 0 || value > setting.limit() {
-        return None;
-    }
+    let value = read_between(table.cell(row, 2), 0, setting.limit())?;
     Some(Entry::Sets(setting, value))
+}
+
+/// The number from the one to the other whose whole text the cell is.
+fn read_between(cell: &[u8], least: i64, most: i64) -> Option<i64>
+    ensures none { IfNone result ((number : ℤ) → IsWholeText cell.now number → least ≤ℤ number → number ≤ℤ most → ⊥) }
+    ensures some { IfSome result (λ number. IsWholeText cell.now number × (least ≤ℤ number) × (number ≤ℤ most)) }
+{
+    let value = read_whole(cell)?;
+    if value >= least && value <= most {
+        Some(value)
+    } else {
+        None
+    }
 }
 
 /// The setting of that name.
@@ -108,29 +120,51 @@ fn read_mode(table: &Table, row: usize) -> Option<Entry>
     ensures none { IfNone result ((entry : Entry) → IsEntry (row_at table.now row) entry → ⊥) }
     ensures some { IfSome result (IsEntry (row_at table.now row)) }
 {
-    let name = table.cell(row, 1);
-    if !is_mode_name(name) {
-        return None;
-    }
-    let change = read_whole(table.cell(row, 2))?;
-    let grid = read_whole(table.cell(row, 3))?;
+    let name = read_name(table.cell(row, 1))?;
+    let change = read_change(table.cell(row, 2))?;
+    let grid = read_grid(table.cell(row, 3))?;
     let low = read_level(table.cell(row, 4), 0)?;
     let high = read_level(table.cell(row, 5), 255)?;
-    if change < -255
-        || change > 255
-        || grid < -1_000_000_000
-        || grid > 1_000_000_000
-        || low > high
-    {
+    if low > high {
         return None;
     }
     Some(Entry::Has(Mode {
-        name: Name::new(name)?,
-        change: change as i16,
-        grid: Wh::new(grid)?,
+        name,
+        change,
+        grid,
         low,
         high,
     }))
+}
+
+/// A mode's name.
+fn read_name(cell: &[u8]) -> Option<Name>
+    ensures none { IfNone result (IsModeName cell.now → ⊥) }
+    ensures some { IfSome result (λ name. (cell.now ≡ name) × IsModeName name) }
+{
+    if is_mode_name(cell) {
+        Name::new(cell)
+    } else {
+        None
+    }
+}
+
+/// A mode's change in levels.
+fn read_change(cell: &[u8]) -> Option<i16>
+    ensures none { IfNone result ((change : ℤ) → IsWholeText cell.now change → IsWithin 255 change → ⊥) }
+    ensures some { IfSome result (λ change. IsWholeText cell.now change × IsWithin 255 change) }
+{
+    let change = read_between(cell, -255, 255)?;
+    Some(change as i16)
+}
+
+/// What a mode adds to the net reading.
+fn read_grid(cell: &[u8]) -> Option<Wh>
+    ensures none { IfNone result ((grid : ℤ) → IsWholeText cell.now grid → IsWithin (10 ^ 9) grid → ⊥) }
+    ensures some { IfSome result (λ grid. IsWholeText cell.now grid × IsWithin (10 ^ 9) grid) }
+{
+    let grid = read_between(cell, -1_000_000_000, 1_000_000_000)?;
+    Wh::new(grid)
 }
 
 /// The level that a cell gives; an empty one gives the level that stands for an absent one.
@@ -141,11 +175,8 @@ fn read_level(cell: &[u8], absent: u8) -> Option<u8>
     if cell.is_empty() {
         return Some(absent);
     }
-    let value = read_whole(cell)?;
-    if value < 0 || value > 255 {
-        return None;
-    }
-    Some(value as u8)
+    let level = read_between(cell, 0, 255)?;
+    Some(level as u8)
 }
 
 /// Whether these are 1 to 32 ASCII letters, digits, underscores or minuses.

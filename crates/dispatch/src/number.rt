@@ -1,10 +1,6 @@
 //! Numbers as the files write them.
 
-<<<<<<< HEAD
-ghost use Rattle.std.specs.Prelude.{◌≡◌, ℕ, ◌≤◌, ℤ, pos, length, FitsSigned, IfNone, IfSome, IsTrue, ◌↔◌};
-=======
 ghost use Rattle.std.specs.Prelude.{◌≡◌, ℕ, ◌+◌, ◌-◌, ◌*◌, ◌^◌, ◌<◌, ◌≤◌, ◌==◌, ℤ, pos, length, take, drop, position, FitsSigned, IfNone, IfSome, IsTrue, ◌↔◌};
->>>>>>> 9c5905ebea8e676575c7bd1fba6c07e6c5191b70
 ghost use Rattle.std.specs.Int.{w64};
 ghost use Rattle.std.specs.Str.Parse.{IsNumeral, digits_value};
 ghost use Rattle.dispatch.specs.Number.{IsWholeText, IsPriceText};

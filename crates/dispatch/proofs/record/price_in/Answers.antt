@@ -2,7 +2,7 @@ use Rattle.std.proofs.Common.{◌≡◌, ℕ, List, Some, sym, ap, ◌∙◌, su
 use Rattle.dispatch.specs.Table.{row_at, cell_in, column_of}
 use Rattle.dispatch.specs.Number.{IsPriceText}
 use Rattle.dispatch.specs.Record.{IsRecord, price_column}
-use Rattle.dispatch.proofs.PriceTexts.{IfNone_then}
+use Rattle.dispatch.proofs.NoValues.{IfNone_then}
 use Rattle.dispatch.proofs.record.price_in.Goals as goal
 
 -- a record's price stands in the column of prices
