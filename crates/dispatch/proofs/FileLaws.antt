@@ -4,6 +4,7 @@ use Rattle.d_model.specs.Storage.{Storage}
 use Rattle.dispatch.specs.Record.{IsRecord}
 use Rattle.dispatch.specs.ReadingsFile.{IsReadingsFile}
 use Rattle.dispatch.specs.BatteryFile.{IsBatteryFile}
+use Rattle.dispatch.proofs.ReadingsFacts.{one_year, one_number, one_list}
 
 -- a record has one price
 pub price_same : (rows : List (List (List ℕ))) (label : List ℕ) (one other : ℕ) → IsRecord rows label one → IsRecord rows label other → one ≡ other
@@ -17,7 +18,11 @@ pub record SameMonth (year year' : ℤ) (number number' : ℕ) (net net' : List 
 
 pub month_same : (rows : List (List (List ℕ))) (year year' : ℤ) (number number' : ℕ) (net net' : List ℤ) → IsReadingsFile rows year number net
     → IsReadingsFile rows year' number' net' → SameMonth year year' number number' net net'
-month_same rows year year' number number' net net' is is_other = ?
+month_same rows year year' number number' net net' is is_other = record {
+  year_is = one_year rows year year' number number' net net' is is_other;
+  number_is = one_number rows year year' number number' net net' is is_other;
+  net_is = one_list rows year year' number number' net net' is is_other;
+}
 
 -- a battery file is one battery
 pub battery_same : (rows : List (List (List ℕ))) (one other : Storage) → IsBatteryFile rows one → IsBatteryFile rows other → one ≡ other

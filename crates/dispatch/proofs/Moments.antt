@@ -49,3 +49,6 @@ mag_small net range = grind (arith, ints)
 -- a cell writes one reading only
 pub one_reading : (cell : List ℕ) (value net : ℤ) → FitsSigned w64 value → IsWholeText cell value → IsReading cell net → value ≡ net
 one_reading cell value net fits text reading = signed_decimal_injective value net fits.sfits (mag_small net reading.1) (sym text ∙ reading.0)
+
+pub one_net : (cell : List ℕ) (net other : ℤ) → IsReading cell net → IsReading cell other → net ≡ other
+one_net cell net other reading second = signed_decimal_injective net other (mag_small net reading.1) (mag_small other second.1) (sym reading.0 ∙ second.0)
