@@ -23,7 +23,7 @@ pub file_rows : (rows : List (List (List ℕ))) (year : ℤ) (number : ℕ) (net
     → length rows ≡ days_in_month year number * 24 + 1
 file_rows rows year number net file = omega (arith, file.readings.whole, file.count)
 
--- a file is of one month
+-- a file is of one year
 pub one_year : (rows : List (List (List ℕ))) (year year' : ℤ) (number number' : ℕ) (net net' : List ℤ) → IsReadingsFile rows year number net
     → IsReadingsFile rows year' number' net' → year ≡ year'
 one_year rows year year' number number' net net' file other =
@@ -31,6 +31,7 @@ one_year rows year year' number number' net net' file other =
     sym (year_value cell year number (digits_value 10 (take 4 cell)) file.month (first_start rows year number net file) refl)
     ∙ year_value cell year' number' (digits_value 10 (take 4 cell)) other.month (first_start rows year' number' net' other) refl
 
+-- which has one number
 pub one_number : (rows : List (List (List ℕ))) (year year' : ℤ) (number number' : ℕ) (net net' : List ℤ) → IsReadingsFile rows year number net
     → IsReadingsFile rows year' number' net' → number ≡ number'
 one_number rows year year' number number' net net' file other =
