@@ -1,5 +1,5 @@
 -- The parts of a start's text.
-use Rattle.std.proofs.Common.{◌≡◌, ◌⊎◌, ℕ, ◌+◌, ◌*◌, ◌/◌, ◌%◌, List, [], ◌∷◌, ◌++◌, length, take, drop, Option, None, Some, Bor, bytes_eq, MatchOption, IfNone, IfSome, Bool, true, false, codes, refl, sym, ap, ◌∙◌, arith, subst, ℤ, FitsSigned, ◌<◌, ◌^◌}
+use Rattle.std.proofs.Common.{◌≡◌, ℕ, ◌+◌, List, ◌∷◌, ◌++◌, length, take, drop, Option, None, Some, Bor, bytes_eq, MatchOption, IfNone, IfSome, true, false, refl, sym, ap, ◌∙◌, arith, ℤ, FitsSigned, ◌<◌, ◌^◌}
 use Rattle.std.proofs.lemmas.List.{append_cancel_left, take_at, take-append-drop}
 use Rattle.std.proofs.lemmas.Slice.Eq.{bytes_eq-Decides}
 use Rattle.std.proofs.lemmas.Fmt.{signed_decimal_injective}
@@ -30,6 +30,7 @@ abbrev IsBehind : List ℕ → List ℕ → Option (Bor (List ℕ)) → Type 0
 IsBehind text front found = MatchOption found (bytes_eq (take (length front) text) front ≡ false)
     (λ x. (bytes_eq (take (length front) text) front ≡ true) × (x.now ≡ drop (length front) text) × (length x.now + length front ≡ length text))
 
+-- where there is none, the text begins with another front
 pub behind_none : (text front : List ℕ) (found : Option (Bor (List ℕ))) → IsBehind text front found → IfNone found ((rest : List ℕ) → text ≡ front ++ rest → ⊥)
 behind_none text front None other = λ rest at.
     let same : take (length front) text ≡ front = rw at (take_at front rest (length front) refl) in
@@ -37,19 +38,23 @@ behind_none text front None other = λ rest at.
     cc
 behind_none text front (Some x) found = tt
 
+-- and where there is one, it stands behind it
 pub behind_some : (text front : List ℕ) (found : Option (Bor (List ℕ))) → IsBehind text front found → IfSome found (λ rest. text ≡ front ++ rest.now)
 behind_some text front None other = tt
 behind_some text front (Some x) found =
     sym (take-append-drop (length front) text) ∙ ap (λ (t : List ℕ). t ++ drop (length front) text) ((bytes_eq-Decides (take (length front) text) front).0 found.0)
     ∙ ap (λ (t : List ℕ). front ++ t) (sym found.1)
 
+-- a reading is small
 mag_small : (net : ℤ) → IsUpTo (10 ^ 9) net → mag net < 2 ^ 63
+-- a reading is small
 mag_small net range = grind (arith, ints)
 
--- a cell writes one reading only
+-- the whole number that is read is the reading
 pub one_reading : (cell : List ℕ) (value net : ℤ) → FitsSigned w64 value → IsWholeText cell value → IsReading cell net → value ≡ net
 one_reading cell value net fits text reading = signed_decimal_injective value net fits.sfits (mag_small net reading.1) (sym text ∙ reading.0)
 
+<<<<<<< HEAD
 -- and a row gives one reading only
 pub reading_same : (row : List (List ℕ)) (year year' : ℤ) (number number' t : ℕ) (net net' : ℤ) → IsReadingRow row year number t net
     → IsReadingRow row year' number' t net' → net ≡ net'
@@ -57,3 +62,8 @@ reading_same row year year' number number' t net net' one other =
     let cells : one.start ∷ one.value ∷ [] ≡ other.start ∷ other.value ∷ [] = sym one.cells ∙ other.cells in
     let value : one.value ≡ other.value = cc in
     signed_decimal_injective net net' (mag_small net one.reading.1) (mag_small net' other.reading.1) (sym one.reading.0 ∙ value ∙ other.reading.0)
+=======
+-- a cell is of one reading
+pub one_net : (cell : List ℕ) (net other : ℤ) → IsReading cell net → IsReading cell other → net ≡ other
+one_net cell net other reading second = signed_decimal_injective net other (mag_small net reading.1) (mag_small other second.1) (sym reading.0 ∙ second.0)
+>>>>>>> 9ce7a7c9e395da7f53d343d311bcd4ced0662a0c

@@ -1,9 +1,13 @@
 -- The rows of a readings file.
-use Rattle.std.proofs.Common.{◌≡◌, ℕ, ◌+◌, ◌*◌, ◌<◌, ℤ, pos, List, [], ◌∷◌, ◌++◌, length, slice_index_or, length-append, refl, sym, ap, ◌∙◌, arith, subst, inl, inr}
+use Rattle.std.proofs.Common.{◌≡◌, ℕ, ◌+◌, ◌*◌, ℤ, pos, List, length, take, drop, slice_index_or, sym, refl, ap, ◌∙◌, arith, subst}
 use Rattle.jiff_core.specs.Calendar.{days_in_month}
+use Rattle.std.specs.Str.Parse.{digits_value}
+use Rattle.std.proofs.lemmas.List.{ext_get_or}
 use Rattle.jiff_core.proofs.CalendarLemmas.{days_in_month_bounds}
+use Rattle.dispatch.proofs.Moments.{one_net}
+use Rattle.dispatch.proofs.MonthTexts.{year_value, number_value}
 use Rattle.dispatch.specs.Table.{row_at, cell_in}
-use Rattle.dispatch.specs.ReadingsFile.{IsReadingsFile, AreReadingRows, IsReadingRow, IsStartText}
+use Rattle.dispatch.specs.ReadingsFile.{IsReadingsFile, IsReadingRow, IsStartText}
 
 -- the first row behind the header is the start of the month
 pub first_start : (rows : List (List (List ℕ))) (year : ℤ) (number : ℕ) (net : List ℤ) → IsReadingsFile rows year number net
@@ -18,3 +22,35 @@ first_start rows year number net file =
 pub file_rows : (rows : List (List (List ℕ))) (year : ℤ) (number : ℕ) (net : List ℤ) → IsReadingsFile rows year number net
     → length rows ≡ days_in_month year number * 24 + 1
 file_rows rows year number net file = omega (arith, file.readings.whole, file.count)
+
+-- a file is of one year
+pub one_year : (rows : List (List (List ℕ))) (year year' : ℤ) (number number' : ℕ) (net net' : List ℤ) → IsReadingsFile rows year number net
+    → IsReadingsFile rows year' number' net' → year ≡ year'
+one_year rows year year' number number' net net' file other =
+    let cell = cell_in (row_at rows 1) 0 in
+    sym (year_value cell year number (digits_value 10 (take 4 cell)) file.month (first_start rows year number net file) refl)
+    ∙ year_value cell year' number' (digits_value 10 (take 4 cell)) other.month (first_start rows year' number' net' other) refl
+
+-- which has one number
+pub one_number : (rows : List (List (List ℕ))) (year year' : ℤ) (number number' : ℕ) (net net' : List ℤ) → IsReadingsFile rows year number net
+    → IsReadingsFile rows year' number' net' → number ≡ number'
+one_number rows year year' number number' net net' file other =
+    let cell = cell_in (row_at rows 1) 0 in
+    sym (number_value cell year number (digits_value 10 (take 2 (drop 5 cell))) file.month (first_start rows year number net file) refl)
+    ∙ number_value cell year' number' (digits_value 10 (take 2 (drop 5 cell))) other.month (first_start rows year' number' net' other) refl
+
+-- a row has one reading
+row_net : (row : List (List ℕ)) (year year' : ℤ) (number number' t : ℕ) (net net' : ℤ) → IsReadingRow row year number t net
+    → IsReadingRow row year' number' t net' → net ≡ net'
+row_net row year year' number number' t net net' is other =
+    let both = sym is.cells ∙ other.cells in
+    let value : is.value ≡ other.value = cc in
+    one_net is.value net net' is.reading (rw value other.reading)
+
+-- and one list of readings
+pub one_list : (rows : List (List (List ℕ))) (year year' : ℤ) (number number' : ℕ) (net net' : List ℤ) → IsReadingsFile rows year number net
+    → IsReadingsFile rows year' number' net' → net ≡ net'
+one_list rows year year' number number' net net' file other =
+    ext_get_or (pos 0) net net' (omega (arith, file.count, other.count))
+    (λ t within. row_net (row_at rows (t + 1)) year year' number number' t (slice_index_or net t (pos 0)) (slice_index_or net' t (pos 0))
+    (file.readings.each t within) (other.readings.each t (omega (arith, file.count, other.count))))

@@ -1,6 +1,5 @@
-use Rattle.std.proofs.Common.{◌≡◌, ◌⊎◌, ◌++◌, ◌∷◌, List, ℕ, sym, ap, ◌∙◌, true, false, subst}
-use Rattle.dispatch.specs.ReadingsFile.{IsMoment}
-use Rattle.dispatch.proofs.Moments.{moment_behind, moment_clock, moment_seconds}
+use Rattle.std.proofs.Common.{◌≡◌, ◌++◌, ◌∷◌, List, ℕ, ap, ◌∙◌, true, false}
+use Rattle.dispatch.proofs.Moments.{moment_clock, moment_seconds}
 use Rattle.dispatch.proofs.readings.is_moment.Goals as goal
 use Rattle.dispatch.proofs.readings.is_moment.Goals.{In-Some-split_first, In-Some-behind}
 

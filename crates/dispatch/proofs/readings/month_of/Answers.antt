@@ -1,5 +1,3 @@
-use Rattle.std.proofs.Common.{◌≡◌, ℕ, ℤ, pos, arith, sym, subst, IfSome, rules}
-use Rattle.d_model.specs.Calendar.{IsMonth}
 use Rattle.dispatch.proofs.MonthTexts.{year_numeral, number_numeral, year_value, number_value}
 use Rattle.dispatch.proofs.readings.month_of.Goals as goal
 

@@ -1,4 +1,4 @@
-use Rattle.std.proofs.Common.{◌≡◌, ◌+◌, ◌*◌, ℕ, ℤ, pos, length, arith, sym, ap, subst, ◌∙◌}
+use Rattle.std.proofs.Common.{◌≡◌, arith, ◌∙◌}
 use Rattle.jiff_core.specs.Calendar.{days_in_month}
 use Rattle.dispatch.specs.ReadingsFile.{IsStartText}
 use Rattle.dispatch.proofs.ReadingsFacts.{first_start, file_rows}

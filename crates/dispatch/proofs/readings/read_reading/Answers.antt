@@ -1,8 +1,7 @@
-use Rattle.std.proofs.Common.{◌≡◌, ◌≤ℤ◌, ◌^◌, ℤ, pos, arith, rules, sym, ◌∙◌, FitsSigned}
+use Rattle.std.proofs.Common.{arith, rules, FitsSigned}
 use Rattle.std.specs.Int.{w64}
 use Rattle.std.proofs.lemmas.Int.{ints}
 use Rattle.dispatch.proofs.Moments.{one_reading}
-use Rattle.dispatch.specs.ReadingsFile.{IsReading}
 use Rattle.dispatch.proofs.readings.read_reading.Goals as goal
 use Rattle.dispatch.proofs.readings.read_reading.Goals.{then-value-lt0-via-then-value-lt0, then-value-lt0-via-else-value-lt0+then-value-gt-GREATEST_READING}
 
