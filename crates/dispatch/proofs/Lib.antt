@@ -8,3 +8,4 @@ pub mod PlanArcs
 pub mod PlanSteps
 pub mod FeasibleWays
 pub mod LeastWays
+pub mod PlanTexts
