@@ -39,7 +39,7 @@ module _ (i : Inputs) (fine : IsInRange i) where
       }
 
   -- where no list is a way no schedule is feasible
-  none_of_ways : ((s : List ℕ) → way_cost (plan_arcs i) 0 i.storage.start s ≡ NoWay) → (s : List ℕ) → IsFeasible i s → ⊥
+  pub none_of_ways : ((s : List ℕ) → way_cost (plan_arcs i) 0 i.storage.start s ≡ NoWay) → (s : List ℕ) → IsFeasible i s → ⊥
   none_of_ways none s feasible = apart (model.bill_of i s) (sym (feasible_cost i fine s feasible) ∙ none s)
     where
       apart : (bill : ℤ) → To bill ≡ NoWay → ⊥

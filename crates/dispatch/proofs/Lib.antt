@@ -23,3 +23,4 @@ pub mod OneAnswer
 pub mod RunLaws
 pub mod EntryFacts
 pub mod NoValues
+pub mod PlanTexts

@@ -12,3 +12,4 @@ pub mod Runs
 pub mod PlainFront
 pub mod PlanWays
 pub mod StageResults
+pub mod PlanLines

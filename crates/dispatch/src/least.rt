@@ -4,10 +4,12 @@ ghost use Rattle.std.specs.Prelude.{◌≡◌, ◌<◌, ◌≤◌, ℕ, List, �
 ghost use Rattle.d_model.specs.Shown.{inputs_of};
 ghost use Rattle.d_model.specs.Schedules.{IsFeasible};
 ghost use Rattle.d_model.specs.Bills.{IsFirstLeast};
-ghost use Rattle.d_path.specs.Arcs.{arcs_of};
-ghost use Rattle.dispatch.specs.PlanWays.{mode_cost, mode_costs, move_of};
+ghost use Rattle.d_num.specs.declared.pot.Pot.TheVariants.{NoWay};
+ghost use Rattle.d_path.specs.Arcs.{arcs_of, intervals_of, way_cost, IsSound};
+ghost use Rattle.d_path.specs.Cheapest.{IsFirstCheapest};
+ghost use Rattle.dispatch.specs.PlanWays.{mode_cost, mode_costs, move_of, plan_arcs};
 
-use d_model::{Battery, Mode, Problem};
+use d_model::{Mode, Problem};
 use d_num::{NoMemory, Pot};
 use d_path::{Layers, Move, Ways, backward, first_cheapest};
 use std::alloc::Global;
@@ -16,29 +18,38 @@ use std::alloc::Global;
 pub fn least_schedule(alloc: Global, problem: &Problem) -> Result<Option<Vec<u8>>, NoMemory>
     ensures { IfOk result (λ found. MatchOption found ((s : List ℕ) → IsFeasible (inputs_of problem.now) s → ⊥) (λ schedule. IsFirstLeast (inputs_of problem.now) schedule.items)) }
 {
-    let intervals = problem.intervals();
-    let battery = problem.battery();
     let costs = costs_of(alloc, problem)?;
-    let moves = moves_of(alloc, battery.modes.as_slice())?;
-    let ways = ways_of(battery, costs.as_slice(), moves.as_slice());
-    let mut layers = Layers::make(
-        alloc,
-        intervals + 1,
-        (battery.capacity - battery.floor) as u16 + 1,
-    )?;
-    backward(&ways, &mut layers);
-    let mut schedule = vec![in alloc; 0u8; intervals as usize]?;
-    if first_cheapest(&ways, &layers, schedule.as_mut_slice()) {
-        Ok(Some(schedule))
+    let moves = moves_of(alloc, problem.battery().modes.as_slice())?;
+    let ways = ways_of(problem, costs.as_slice(), moves.as_slice());
+    let intervals = problem.intervals();
+    first_way(alloc, &ways, intervals)
+}
+
+/// The numbers of the moves of the first of the cheapest ways, or None exactly where there is no way.
+fn first_way(alloc: Global, ways: &Ways, intervals: u32) -> Result<Option<Vec<u8>>, NoMemory>
+    requires sound { IsSound (arcs_of ways.now) }
+    requires intervals { intervals ≡ intervals_of (arcs_of ways.now) }
+    ensures { IfOk result (λ found. MatchOption found ((s : List ℕ) → way_cost (arcs_of ways.now) 0 ways.now.start s ≡ NoWay) (λ way. IsFirstCheapest (arcs_of ways.now) 0 ways.now.start way.items)) }
+{
+    let levels = (ways.capacity - ways.floor) as u16 + 1;
+    let mut layers = Layers::make(alloc, intervals + 1, levels)?;
+    backward(ways, &mut layers);
+    let mut way = vec![in alloc; 0u8; intervals as usize]?;
+    if first_cheapest(ways, &layers, way.as_mut_slice()) {
+        Ok(Some(way))
     } else {
         Ok(None)
     }
 }
 
-/// The ways of a battery at these costs and moves.
-fn ways_of<'a>(battery: &Battery, costs: &'a [Pot], moves: &'a [Move]) -> Ways<'a>
-    ensures { arcs_of result ≡ record { costs = costs.now; moves = moves.now; floor = battery.now.floor; capacity = battery.now.capacity; start = battery.now.start; end = battery.now.end } }
+/// The ways of a problem, where its modes cost this much and move the level like this.
+fn ways_of<'a>(problem: &Problem, costs: &'a [Pot], moves: &'a [Move]) -> Ways<'a>
+    requires costs { costs.now ≡ mode_costs (inputs_of problem.now) }
+    requires moves { moves.now ≡ map move_of (inputs_of problem.now).storage.modes }
+    ensures ways { arcs_of result ≡ plan_arcs (inputs_of problem.now) }
+    ensures start { result.start ≡ (inputs_of problem.now).storage.start }
 {
+    let battery = problem.battery();
     Ways {
         costs,
         moves,

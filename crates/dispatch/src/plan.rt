@@ -1,18 +1,22 @@
 //! The text of a plan.
 
-ghost use Rattle.std.specs.Prelude.{◌≡◌, ℕ, List, ◌++◌, ◌+◌, ◌<◌, ◌≤◌, length, IfOk, OnOk, codes};
+ghost use Rattle.std.specs.Prelude.{◌≡◌, ◌∷◌, ◌++◌, ◌<◌, length, IfOk, OnOk, string_bytes};
 ghost use Rattle.d_model.specs.Shown.{inputs_of, plain_of};
-ghost use Rattle.d_model.specs.Schedules.{IsFeasible, level_at};
-ghost use Rattle.d_model.specs.Bills.{IsFirstLeast, bill_of};
+ghost use Rattle.std.specs.Fmt.{signed_decimal};
+ghost use Rattle.d_model.specs.Flows.{flow_of};
+ghost use Rattle.d_model.specs.Schedules.{IsFeasible};
+ghost use Rattle.d_model.specs.Bills.{bill_of};
 ghost use Rattle.dispatch.specs.Replies.{IsReply};
-ghost use Rattle.dispatch.specs.Text.{line, plan_text, plan_head, schedule_lines, schedule_line};
+ghost use Rattle.dispatch.specs.Text.{line, plan_head, schedule_lines};
+ghost use Rattle.dispatch.specs.Text as spec;
+ghost use Rattle.dispatch.specs.PlanLines.{level_line};
 
 use crate::least::least_schedule;
 use crate::text::{date_text, money_text, month_text, time_text};
 use crate::verdict::Verdict;
-use d_model::{Battery, Meter, Problem, Tally};
+use d_model::{Battery, Meter, Mode, Problem, Tally};
 use d_num::{Money, NoMemory, Rate};
-use std::alloc::Global;
+use std::alloc::{AllocError, Global};
 
 const MINUTES_PER_DAY: u32 = 1440;
 
@@ -34,24 +38,50 @@ pub fn plan(
     ensures { IfOk result (IsReply (plain_of price meter.now battery.now) label.now) }
 {
     let problem = Problem::plain(alloc, price, meter, battery)?;
-    let mut text = Vec::new(alloc);
-    let Some(schedule) = least_schedule(alloc, &problem)? else {
-        text.extend_from_slice(b"no schedule\n")?;
-        return Ok(Reply {
-            verdict: Verdict::NoSchedule,
-            text,
-        });
-    };
-    let mut tally = Tally::new();
-    match problem.walk(schedule.as_slice(), &mut tally) {
-        Ok(()) => {
-            put_head(alloc, &mut text, label, &problem, problem.bill(&tally))?;
-            put_schedule(alloc, &mut text, &problem, schedule.as_slice())?;
+    match least_schedule(alloc, &problem)? {
+        Some(schedule) => {
+            let text = plan_text(alloc, label, &problem, schedule.as_slice())?;
             Ok(Reply {
                 verdict: Verdict::Done,
                 text,
             })
         }
+        None => {
+            let mut text = Vec::new(alloc);
+            put_line(&mut text, "no schedule", "")?;
+            Ok(Reply {
+                verdict: Verdict::NoSchedule,
+                text,
+            })
+        }
+    }
+}
+
+/// The text of a plan by a feasible schedule.
+fn plan_text(
+    alloc: Global,
+    label: &str,
+    problem: &Problem,
+    schedule: &[u8],
+) -> Result<Vec<u8>, NoMemory>
+    requires { IsFeasible (inputs_of problem.now) schedule.now }
+    ensures { IfOk result (λ text. text.items ≡ spec.plan_text (inputs_of problem.now) label.now schedule.now) }
+{
+    let bill = bill(problem, schedule);
+    let mut text = Vec::new(alloc);
+    put_head(alloc, &mut text, label, problem, bill)?;
+    put_schedule(alloc, &mut text, problem, schedule)?;
+    Ok(text)
+}
+
+/// The bill of a feasible schedule.
+fn bill(problem: &Problem, schedule: &[u8]) -> Money
+    requires { IsFeasible (inputs_of problem.now) schedule.now }
+    ensures { result ≡ bill_of (inputs_of problem.now) schedule.now }
+{
+    let mut tally = Tally::new();
+    match problem.walk(schedule, &mut tally) {
+        Ok(()) => problem.bill(&tally),
         Err(_) => unreachable!(),
     }
 }
@@ -97,11 +127,12 @@ fn put_schedule(
     requires { IsFeasible (inputs_of problem.now) schedule.now }
     ensures { OnOk result (text.new.items ≡ text.old.items ++ schedule_lines (inputs_of problem.now) schedule.now (length (inputs_of problem.now).net)) }
 {
+    let modes = problem.battery().modes.as_slice();
     let mut level = problem.battery().start as i16;
     for t in 0..problem.intervals() {
-        let number = schedule[t as usize];
-        level += problem.battery().modes.as_slice()[number as usize].change;
-        put_interval(alloc, text, problem, t, number, level)?;
+        let mode = &modes[schedule[t as usize] as usize];
+        level += mode.change;
+        put_interval(alloc, text, problem, t, mode, level)?;
     }
     Ok(())
 }
@@ -112,19 +143,43 @@ fn put_interval(
     text: &mut Vec<u8>,
     problem: &Problem,
     t: u32,
-    number: u8,
+    mode: &Mode,
     level: i16,
-) -> Result<(), NoMemory> {
+) -> Result<(), NoMemory>
+    requires { t < length (inputs_of problem.now).net }
+    ensures { OnOk result (text.new.items ≡ text.old.items ++ level_line (inputs_of problem.now) t mode.now level) }
+{
+    let start = start_text(alloc, problem, t)?;
+    let numbers = two_numbers(alloc, level, flow(problem, t, mode))?;
+    text.extend_from_slice(start.as_str().as_bytes())?;
+    text.push(b' ')?;
+    text.extend_from_slice(mode.name.bytes())?;
+    put_line(text, " ", numbers.as_str())
+}
+
+/// What flows through the meter in an interval, in Wh.
+fn flow(problem: &Problem, t: u32, mode: &Mode) -> i64
+    requires { t < length (inputs_of problem.now).net }
+    ensures { result ≡ flow_of (inputs_of problem.now) t mode.now }
+{
+    problem.net(t).value() + mode.grid.value()
+}
+
+/// Two numbers with a space between them.
+fn two_numbers(alloc: Global, first: i16, second: i64) -> Result<String, AllocError>
+    ensures { IfOk result (λ text. string_bytes text ≡ signed_decimal first ++ 32 ∷ signed_decimal second) }
+{
+    format!(in alloc; "{first} {second}")
+}
+
+/// The start of an interval, as YYYY-MM-DDTHH:MM.
+fn start_text(alloc: Global, problem: &Problem, t: u32) -> Result<String, AllocError>
+    requires { t < length (inputs_of problem.now).net }
+    ensures { IfOk result (λ text. string_bytes text ≡ spec.start_text (inputs_of problem.now) t) }
+{
+    let _count = problem.intervals();
     let minute = t * problem.minutes() as u32;
     let date = date_text(alloc, problem.month(), minute / MINUTES_PER_DAY + 1)?;
     let time = time_text(alloc, minute % MINUTES_PER_DAY)?;
-    let mode = &problem.battery().modes.as_slice()[number as usize];
-    let flow = problem.net(t).value() + mode.grid.value();
-    let numbers = format!(in alloc; " {level} {flow}")?;
-    text.extend_from_slice(date.as_str().as_bytes())?;
-    text.push(b'T')?;
-    text.extend_from_slice(time.as_str().as_bytes())?;
-    text.push(b' ')?;
-    text.extend_from_slice(mode.name.bytes())?;
-    put_line(text, numbers.as_str(), "")
+    format!(in alloc; "{date}T{time}")
 }
