@@ -8,7 +8,7 @@ use Rattle.std.specs.Int.{w64}
 use Rattle.std.specs.Int.Signed.{mag}
 use Rattle.d_num.specs.Amount.{IsUpTo}
 use Rattle.dispatch.specs.Number.{IsWholeText}
-use Rattle.dispatch.specs.ReadingsFile.{IsMoment, IsReading, IsReadingRow}
+use Rattle.dispatch.specs.ReadingsFile.{IsMoment, IsReading}
 
 -- what stands behind the date of a moment
 pub moment_behind : (cell date time behind : List ℕ) → cell ≡ date ++ behind → (m : IsMoment cell date time) → behind ≡ m.between ∷ (time ++ m.seconds)
@@ -54,16 +54,6 @@ mag_small net range = grind (arith, ints)
 pub one_reading : (cell : List ℕ) (value net : ℤ) → FitsSigned w64 value → IsWholeText cell value → IsReading cell net → value ≡ net
 one_reading cell value net fits text reading = signed_decimal_injective value net fits.sfits (mag_small net reading.1) (sym text ∙ reading.0)
 
-<<<<<<< HEAD
--- and a row gives one reading only
-pub reading_same : (row : List (List ℕ)) (year year' : ℤ) (number number' t : ℕ) (net net' : ℤ) → IsReadingRow row year number t net
-    → IsReadingRow row year' number' t net' → net ≡ net'
-reading_same row year year' number number' t net net' one other =
-    let cells : one.start ∷ one.value ∷ [] ≡ other.start ∷ other.value ∷ [] = sym one.cells ∙ other.cells in
-    let value : one.value ≡ other.value = cc in
-    signed_decimal_injective net net' (mag_small net one.reading.1) (mag_small net' other.reading.1) (sym one.reading.0 ∙ value ∙ other.reading.0)
-=======
 -- a cell is of one reading
 pub one_net : (cell : List ℕ) (net other : ℤ) → IsReading cell net → IsReading cell other → net ≡ other
 one_net cell net other reading second = signed_decimal_injective net other (mag_small net reading.1) (mag_small other second.1) (sym reading.0 ∙ second.0)
->>>>>>> 9ce7a7c9e395da7f53d343d311bcd4ced0662a0c
