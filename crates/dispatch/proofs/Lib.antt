@@ -9,3 +9,4 @@ pub mod PlanSteps
 pub mod FeasibleWays
 pub mod LeastWays
 pub mod PlanTexts
+pub mod PlanLevels
