@@ -21,13 +21,13 @@ use Rattle.dispatch.proofs.PlanArcs.{intervals_is, arc_cost_is}
 use Rattle.dispatch.proofs.PlanSteps.{Steps, step_of, keeps_of, mode_within}
 
 -- the level after one interval more
-level_more : (i : Inputs) (s : List ℕ) (t level after : ℕ) → pos level ≡ level_at i s t → pos after ≡ pos level +ℤ change_of i (slice_index s t) → pos after ≡ level_at i s (t + 1)
+pub level_more : (i : Inputs) (s : List ℕ) (t level after : ℕ) → pos level ≡ level_at i s t → pos after ≡ pos level +ℤ change_of i (slice_index s t) → pos after ≡ level_at i s (t + 1)
 level_more i s t level after before higher =
     let changes = sum_of_first-more t (λ k. change_of i (slice_index s k)) in
     omega (arith, ints, before, higher, changes)
 
 -- the start
-level_none : (i : Inputs) (s : List ℕ) → pos i.storage.start ≡ level_at i s 0
+pub level_none : (i : Inputs) (s : List ℕ) → pos i.storage.start ≡ level_at i s 0
 level_none i s = let changes = sum_of_first-none (λ k. change_of i (slice_index s k)) in omega (arith, ints, changes)
 
 -- the cost of what is left, on top of what the intervals before t take, makes up the bill

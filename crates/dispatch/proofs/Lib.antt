@@ -24,3 +24,4 @@ pub mod RunLaws
 pub mod EntryFacts
 pub mod NoValues
 pub mod PlanTexts
+pub mod PlanLevels

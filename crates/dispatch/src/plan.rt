@@ -1,8 +1,9 @@
 //! The text of a plan.
 
-ghost use Rattle.std.specs.Prelude.{◌≡◌, ◌∷◌, ◌++◌, ◌<◌, length, IfOk, OnOk, string_bytes};
+ghost use Rattle.std.specs.Prelude.{◌≡◌, pos, ◌+ℤ◌, ◌∷◌, ◌++◌, ◌<◌, length, IfOk, OnOk, string_bytes};
 ghost use Rattle.d_model.specs.Shown.{inputs_of, plain_of};
-ghost use Rattle.std.specs.Fmt.{signed_decimal};
+ghost use Rattle.d_num.specs.Amount.{IsUpTo};
+ghost use Rattle.std.specs.Fmt.{decimal, signed_decimal};
 ghost use Rattle.d_model.specs.Flows.{flow_of};
 ghost use Rattle.d_model.specs.Schedules.{IsFeasible};
 ghost use Rattle.d_model.specs.Bills.{bill_of};
@@ -128,13 +129,21 @@ fn put_schedule(
     ensures { OnOk result (text.new.items ≡ text.old.items ++ schedule_lines (inputs_of problem.now) schedule.now (length (inputs_of problem.now).net)) }
 {
     let modes = problem.battery().modes.as_slice();
-    let mut level = problem.battery().start as i16;
+    let mut level = problem.battery().start;
     for t in 0..problem.intervals() {
         let mode = &modes[schedule[t as usize] as usize];
-        level += mode.change;
+        level = level_after(level, mode);
         put_interval(alloc, text, problem, t, mode, level)?;
     }
     Ok(())
+}
+
+/// The level after a mode that begins at a level.
+fn level_after(level: u8, mode: &Mode) -> u8
+    requires { IsUpTo 255 (pos level +ℤ mode.now.change) }
+    ensures { pos result ≡ pos level +ℤ mode.now.change }
+{
+    (level as i16 + mode.change) as u8
 }
 
 /// The line of an interval: its start, the mode's name, the level after it and what flows through the meter in Wh.
@@ -144,10 +153,10 @@ fn put_interval(
     problem: &Problem,
     t: u32,
     mode: &Mode,
-    level: i16,
+    level: u8,
 ) -> Result<(), NoMemory>
     requires { t < length (inputs_of problem.now).net }
-    ensures { OnOk result (text.new.items ≡ text.old.items ++ level_line (inputs_of problem.now) t mode.now level) }
+    ensures { OnOk result (text.new.items ≡ text.old.items ++ level_line (inputs_of problem.now) t mode.now (pos level)) }
 {
     let start = start_text(alloc, problem, t)?;
     let numbers = two_numbers(alloc, level, flow(problem, t, mode))?;
@@ -166,8 +175,8 @@ fn flow(problem: &Problem, t: u32, mode: &Mode) -> i64
 }
 
 /// Two numbers with a space between them.
-fn two_numbers(alloc: Global, first: i16, second: i64) -> Result<String, AllocError>
-    ensures { IfOk result (λ text. string_bytes text ≡ signed_decimal first ++ 32 ∷ signed_decimal second) }
+fn two_numbers(alloc: Global, first: u8, second: i64) -> Result<String, AllocError>
+    ensures { IfOk result (λ text. string_bytes text ≡ decimal first ++ 32 ∷ signed_decimal second) }
 {
     format!(in alloc; "{first} {second}")
 }

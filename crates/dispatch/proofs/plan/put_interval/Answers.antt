@@ -1,8 +1,7 @@
-use Rattle.std.proofs.Common.{◌≡◌, ℤ, rules, FitsSigned, w16, w64, string_bytes, ap, ◌++◌, ◌∷◌, ◌∙◌}
-use Rattle.std.proofs.Math.Path.{ap₂}
+use Rattle.std.proofs.Common.{◌≡◌, ℤ, pos, rules, FitsSigned, w64, string_bytes, ap, ◌++◌, ◌∷◌, ◌∙◌}
 use Rattle.std.proofs.lemmas.Int.{to_z-of_z}
 use Rattle.std.proofs.lemmas.Result.{on_ok_weaker}
-use Rattle.std.specs.Fmt.{signed_decimal}
+use Rattle.std.specs.Fmt.{decimal, signed_decimal}
 use Rattle.d_model.specs.Shown.{inputs_of}
 use Rattle.d_model.specs.Flows.{flow_of}
 use Rattle.dispatch.specs.Text.{start_text}
@@ -13,14 +12,13 @@ pub returns : goal.returns
 returns c =
     let i = inputs_of c.args.problem.now in
     let start : c.as_bytes.result.now ≡ start_text i c.args.t = c.as_bytes.ensures.value ∙ c.as_str.ensures.value ∙ c.in_ok-start.ensures in
-    let fits : FitsSigned w16 c.args.level = search rules in
-    let flow_fits : FitsSigned w64 c.flow.result = search rules in
-    let shown : string_bytes c.in_ok-numbers.numbers ≡ signed_decimal c.args.level ++ 32 ∷ signed_decimal c.flow.result
-    = c.in_ok-numbers.ensures ∙ ap₂ (λ (y z : ℤ). signed_decimal y ++ 32 ∷ signed_decimal z) (to_z-of_z w16 c.args.level fits) (to_z-of_z w64 c.flow.result flow_fits) in
-    let numbers : c.as_str-2.result.now ≡ signed_decimal c.args.level ++ 32 ∷ signed_decimal (flow_of i c.args.t c.args.mode.now)
-    = c.as_str-2.ensures.value ∙ shown ∙ ap (λ (z : ℤ). signed_decimal c.args.level ++ 32 ∷ signed_decimal z) c.flow.ensures in
+    let fits : FitsSigned w64 c.flow.result = search rules in
+    let shown : string_bytes c.in_ok-numbers.numbers ≡ decimal c.args.level ++ 32 ∷ signed_decimal c.flow.result
+    = c.in_ok-numbers.ensures ∙ ap (λ (z : ℤ). decimal c.args.level ++ 32 ∷ signed_decimal z) (to_z-of_z w64 c.flow.result fits) in
+    let numbers : c.as_str-2.result.now ≡ decimal c.args.level ++ 32 ∷ signed_decimal (flow_of i c.args.t c.args.mode.now)
+    = c.as_str-2.ensures.value ∙ shown ∙ ap (λ (z : ℤ). decimal c.args.level ++ 32 ∷ signed_decimal z) c.flow.ensures in
     on_ok_weaker c.put_line.result
-    (level_line_is i c.args.t c.args.mode.now c.args.level c.args.text.now.items c.extend_from_slice.new.self.items c.push.new.self.items c.extend_from_slice-2.new.self.items c.put_line.new.text.items
+    (level_line_is i c.args.t c.args.mode.now (pos c.args.level) c.args.text.now.items c.extend_from_slice.new.self.items c.push.new.self.items c.extend_from_slice-2.new.self.items c.put_line.new.text.items
     c.as_bytes.result.now c.bytes.result.now c.as_str-2.result.now start c.bytes.ensures.value numbers
     c.in_ok-extend_from_slice.ensures.items c.in_ok-push.ensures.items c.in_ok-extend_from_slice-2.ensures.items)
     c.put_line.ensures
