@@ -6,3 +6,4 @@ pub mod WholeTexts
 pub mod PriceTexts
 pub mod EntryFacts
 pub mod NoValues
+pub mod DraftFacts

@@ -10,3 +10,4 @@ pub mod Answer
 pub mod Replies
 pub mod Runs
 pub mod PlainFront
+pub mod Draft
