@@ -7,3 +7,4 @@ pub mod PriceTexts
 pub mod EntryFacts
 pub mod NoValues
 pub mod DraftFacts
+pub mod EntryLists
