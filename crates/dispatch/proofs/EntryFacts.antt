@@ -39,7 +39,8 @@ pub level_none : (absent : ℕ) (cell : List ℕ) → 0 < length cell → ((numb
 level_none absent cell some bad level small (inl empty) = let none = ap (λ (t : List ℕ). length t) empty.0 in omega arith
 level_none absent cell some bad level small (inr text) = bad (pos level) text (omega (arith, ints)) (omega (arith, ints))
 
-kinds_differ : codes "mode" ≡ codes "set" → ⊥
+-- a row has one kind
+pub kinds_differ : codes "mode" ≡ codes "set" → ⊥
 kinds_differ e = let long : length (codes "mode") ≡ length (codes "set") = ap length e in omega arith
 
 -- a mode's row sets no number

@@ -25,3 +25,5 @@ pub mod EntryFacts
 pub mod NoValues
 pub mod PlanTexts
 pub mod PlanLevels
+pub mod DraftFacts
+pub mod EntryLists
