@@ -1,5 +1,5 @@
 -- What a draft of a battery has, entry by entry.
-use Rattle.std.proofs.Common.{◌≡◌, ◌≢◌, ℕ, zero, suc, ◌+◌, ◌^◌, ◌<◌, ◌≤◌, ℤ, pos, Bool, true, false, cond, List, [], ◌∷◌, ◌++◌, length, Option, Some, None, IfSome, All, slice_get, unwrap_or, arith, refl, sym, ap, ◌∙◌, subst, inl, inr, ◌⊎◌, length-append}
+use Rattle.std.proofs.Common.{◌≡◌, ◌≢◌, ℕ, zero, suc, ◌^◌, ◌<◌, ◌≤◌, ℤ, pos, true, false, cond, List, [], ◌∷◌, ◌++◌, length, Option, Some, None, IfSome, All, slice_get, unwrap_or, arith, refl, sym, ap, ◌∙◌, subst, inl, inr, ◌⊎◌, length-append}
 use Rattle.std.specs.Option.{is_some}
 use Rattle.std.proofs.lemmas.Bool.{cases_Bool, false≢true}
 use Rattle.std.proofs.lemmas.Int.{ints}
@@ -14,8 +14,8 @@ use Rattle.dispatch.specs.declared.entry.Setting.{Setting}
 use Rattle.dispatch.specs.declared.entry.Setting.TheVariants.{Capacity, Floor, Start, End, MaxImport, MaxExport}
 use Rattle.dispatch.specs.declared.entry.Entry.{Entry}
 use Rattle.dispatch.specs.declared.entry.Entry.TheVariants.{Sets, Has}
-use Rattle.dispatch.specs.BatteryFile.{setting_limit, is_same_setting, modes_of, values_of, value_of}
-use Rattle.dispatch.specs.Draft.{IsUsable, IsLimited, IsSound, IsDraftOf, MakesStorage, value_in}
+use Rattle.dispatch.specs.BatteryFile.{setting_limit, is_same_setting, modes_of, values_of}
+use Rattle.dispatch.specs.Draft.{IsUsable, IsSound, IsDraftOf, MakesStorage, value_in}
 
 -- ---- settings
 

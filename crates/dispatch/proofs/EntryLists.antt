@@ -1,8 +1,8 @@
 -- The rows of a battery file give one list of entries.
-use Rattle.std.proofs.Common.{◌≡◌, ◌≢◌, ℕ, zero, suc, ◌+◌, ◌^◌, ◌<◌, ◌≤◌, ℤ, pos, List, [], ◌∷◌, ◌++◌, length, Option, Some, None, unwrap_or, slice_get, slice_index, codes, FitsSigned, arith, refl, sym, ap, ◌∙◌, subst, inl, inr, ◌⊎◌, length-append, add-zero}
+use Rattle.std.proofs.Common.{◌≡◌, ℕ, zero, suc, ◌+◌, ◌^◌, ◌<◌, ◌≤◌, ℤ, pos, List, [], ◌∷◌, ◌++◌, length, Option, Some, None, unwrap_or, slice_get, slice_index, FitsSigned, arith, refl, sym, ap, ◌∙◌, subst, inl, inr, length-append}
 use Rattle.std.specs.Int.{w64}
 use Rattle.std.proofs.lemmas.Int.{ints}
-use Rattle.std.proofs.lemmas.Option.{slice_get_within, slice_get_cases}
+use Rattle.std.proofs.lemmas.Option.{slice_get_cases}
 use Rattle.std.proofs.lemmas.List.{append-nil}
 use Rattle.d_num.specs.Amount.{IsWithin, IsUpTo}
 use Rattle.d_model.specs.declared.mode.Mode.{Mode}
@@ -13,7 +13,7 @@ use Rattle.dispatch.specs.declared.entry.Setting.TheVariants.{Capacity, Floor, S
 use Rattle.dispatch.specs.declared.entry.Entry.{Entry}
 use Rattle.dispatch.specs.declared.entry.Entry.TheVariants.{Sets, Has}
 use Rattle.dispatch.specs.Table.{row_at, cell_in, IsHeader}
-use Rattle.dispatch.specs.BatteryFile.{IsEntry, IsSetRow, IsModeRow, IsBatteryFile, battery_header, setting_name, setting_limit, modes_of, value_of}
+use Rattle.dispatch.specs.BatteryFile.{IsEntry, IsModeRow, IsBatteryFile, battery_header, setting_name, setting_limit, modes_of, value_of}
 use Rattle.dispatch.specs.Draft.{AreEntries, IsUsable, IsLimited, IsDraftOf, MakesStorage, value_in}
 use Rattle.dispatch.proofs.EntryFacts.{whole_same, level_same, kinds_differ}
 use Rattle.dispatch.proofs.DraftFacts.{get_push, usable_front}

@@ -1,7 +1,6 @@
 -- What the reader of a battery file keeps of the rows that it has read.
 use Rattle.std.specs.Prelude.{◌≡◌, ℕ, ◌+◌, ◌^◌, ◌≤◌, ℤ, pos, List, length, All, Option, Some, IfSome, unwrap_or, slice_get}
 use Rattle.d_num.specs.Amount.{IsUpTo}
-use Rattle.d_model.specs.declared.mode.Mode.{Mode}
 use Rattle.d_model.specs.Storage.{Storage, IsMode, IsStorage, HasDifferentNames}
 use Rattle.dispatch.specs.declared.draft.Draft.{Draft}
 use Rattle.dispatch.specs.declared.entry.Setting.{Setting}

@@ -1,4 +1,4 @@
-use Rattle.std.proofs.Common.{arith, ◌≡◌, refl, false, true}
+use Rattle.std.proofs.Common.{arith}
 use Rattle.std.proofs.lemmas.Bool.{iff_false}
 use Rattle.dispatch.proofs.DraftFacts.{value_in-modes, full_refused, name_refused, add_ok}
 use Rattle.dispatch.proofs.draft.Draft.add.Goals as goal
