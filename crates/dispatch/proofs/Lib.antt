@@ -25,3 +25,6 @@ pub mod EntryFacts
 pub mod NoValues
 pub mod PlanTexts
 pub mod PlanLevels
+pub mod Deciding
+pub mod RequestFound
+pub mod PriceFound

@@ -13,3 +13,4 @@ pub mod PlainFront
 pub mod PlanWays
 pub mod StageResults
 pub mod PlanLines
+pub mod Law

@@ -5,6 +5,7 @@ mod answer;
 mod battery;
 mod entry;
 mod fault;
+mod law;
 mod least;
 mod number;
 mod plan;
