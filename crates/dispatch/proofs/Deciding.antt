@@ -1,11 +1,12 @@
 -- What can be decided over plain values: that it holds, or that it doesn't.
-use Rattle.std.proofs.Common.{◌≡◌, ◌⊎◌, inl, inr, ℕ, zero, suc, ◌<◌, ◌≤◌, Bool, true, false, ◌==◌, ltb, ℤ, pos, negsuc, ◌≤ℤ◌, List, [], ◌∷◌, length, All, slice_index_or, Decides, bytes_eq, IsTrue, refl, sym, ap, ◌∙◌, arith, Option, None, Some, map, true≢false}
+use Rattle.std.proofs.Common.{◌≡◌, ◌⊎◌, inl, inr, ℕ, zero, suc, ◌<◌, ◌≤◌, Bool, true, false, ◌==◌, ltb, ℤ, pos, negsuc, ◌≤ℤ◌, List, [], ◌∷◌, length, All, slice_get, Decides, bytes_eq, IsTrue, refl, sym, ap, ◌∙◌, arith, Option, None, Some, true≢false}
 use Rattle.std.proofs.lemmas.Bool.Decides.{Decides-eqb, Decides-ltb, Decides-int_eq}
 use Rattle.std.proofs.lemmas.Slice.Eq.{bytes_eq-Decides, slice_eq-Decides}
 use Rattle.std.specs.Cmp.Lexicographic.{pointwise}
 use Rattle.std.specs.List.{AllByRecursion}
 use Rattle.std.proofs.lemmas.List.Elements.{recursion_from_All, All-from_recursion}
 use Rattle.std.proofs.lemmas.Int.{ints}
+use Rattle.std.proofs.lemmas.Option.{slice_get_within}
 use Rattle.d_num.specs.Amount.{IsWithin, IsUpTo}
 
 pub data Decided (P : Type 0) : Type 0 where
@@ -118,3 +119,13 @@ each_item {X} P test xs = restated (All-from_recursion P xs) (recursion_from_All
 pub candidate : {A : Type 0} (P : A → Type 0) (x : A) → ((y : A) → P y → y ≡ x) → Decided (P x) → Found P
 candidate P x only (holds p) = found x p
 candidate P x only (fails none) = nothing (λ y p. none (rw (sym (only y p)) p))
+
+-- of each item at its place
+pub each_got : {X : Type 0} (P : ℕ → X → Type 0) → ((k : ℕ) (x : X) → Decided (P k x)) → (xs : List X) → Decided ((k : ℕ) (x : X) → slice_get xs k ≡ Some x → P k x)
+each_got {X} P test xs = restated (λ h k x at. h k (slice_get_within xs k x at) x at) (λ h k lt x at. h k x at)
+    (each_below (λ k. (x : X) → slice_get xs k ≡ Some x → P k x) (λ k. at_place k (slice_get xs k) refl) (length xs))
+  where
+    at_place : (k : ℕ) (o : Option X) → slice_get xs k ≡ o → Decided ((x : X) → slice_get xs k ≡ Some x → P k x)
+    at_place k None none = holds (λ x at. let both : ◌≡◌ {A = Option X} None (Some x) = sym none ∙ at in absurd (cc))
+    at_place k (Some y) got = restated (λ p x at. let both : Some y ≡ Some x = sym got ∙ at in let same : x ≡ y = cc in rw same p)
+        (λ h. h y got) (test k y)

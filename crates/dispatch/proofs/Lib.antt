@@ -28,3 +28,7 @@ pub mod PlanLevels
 pub mod Deciding
 pub mod RequestFound
 pub mod PriceFound
+pub mod WholeFound
+pub mod MonthFound
+pub mod EntryFound
+pub mod BatteryFound
