@@ -1,14 +1,12 @@
 -- Which files an answer opens, and how a stage's end decides it.
-use Rattle.std.proofs.Common.{◌≡◌, ◌⊎◌, inl, inr, ℕ, ℤ, pos, ◌^◌, ◌<◌, ◌≤◌, ◌+◌, List, [], ◌∷◌, ◌++◌, length, refl, sym, ap, subst, ◌∙◌, arith, codes, slice_index_or}
-use Rattle.d_desk.specs.Front.{IsFront, GainsFront}
+use Rattle.std.proofs.Common.{◌≡◌, ℕ, ℤ, ◌^◌, ◌≤◌, List, [], ◌∷◌, length, refl, sym, ap, subst, ◌∙◌, arith, slice_index_or}
+use Rattle.d_desk.specs.Front.{IsFront}
 use Rattle.d_desk.specs.Scene.{Files, Scene, Opening, opening, bytes_in}
-use Rattle.d_desk.specs.Stages.{Opens, OpensSome}
+use Rattle.d_desk.specs.Stages.{OpensSome}
 use Rattle.d_desk.specs.declared.opened.Direction.TheVariants.{In}
 use Rattle.d_desk.proofs.Fronts.{front_all, front_front}
-use Rattle.d_desk.proofs.StageLaws.{opens_some_all}
-use Rattle.d_model.specs.Storage.{Storage}
 use Rattle.dispatch.specs.Words.{Asked, IsRequest, words_of}
-use Rattle.dispatch.specs.Answer.{Answer, IsAnswer, IsWithRecord, IsWithReadings, IsWithBattery, IsPlanned, refused, opens_record, opens_readings, opens_all, MeansPrice, MeansMonth, MeansBattery, hourly_inputs}
+use Rattle.dispatch.specs.Answer.{Answer, IsAnswer, IsWithRecord, IsWithReadings, IsWithBattery, opens_record, opens_readings, opens_all, MeansPrice, MeansMonth}
 use Rattle.dispatch.specs.Answer.{no_request, request, record_too_long, no_price, has_price, readings_too_long, no_month, has_month, battery_too_long, no_battery, has_battery, no_schedule, least}
 use Rattle.dispatch.specs.StageResults.{StopsOpening}
 

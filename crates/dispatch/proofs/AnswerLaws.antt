@@ -1,18 +1,17 @@
 -- What a run has prepared where one of its stages ends it, over plain scenes.
-use Rattle.std.proofs.Common.{◌≡◌, ◌⊎◌, inl, inr, ℕ, ℤ, pos, ◌^◌, ◌<◌, ◌≤◌, ◌+◌, List, [], ◌∷◌, ◌++◌, length, Result, Ok, Err, refl, sym, ap, subst, ◌∙◌, arith, codes}
-use Rattle.d_desk.specs.Scene.{Files, Scene, Opening, opening, bytes_in}
-use Rattle.d_desk.specs.Stages.{Opens, OpensSome}
+use Rattle.std.proofs.Common.{◌≡◌, inl, inr, ℕ, ℤ, List, [], ◌∷◌, Err, refl, ap, subst}
+use Rattle.d_desk.specs.Scene.{Files, Scene, Opening, opening}
+use Rattle.d_desk.specs.Stages.{Opens}
 use Rattle.d_desk.specs.declared.opened.Direction.TheVariants.{In}
 use Rattle.d_desk.proofs.StageLaws.{opens_none, opens_then, opens_some_all, opens_some_after}
-use Rattle.d_model.specs.Storage.{Storage}
 use Rattle.d_model.specs.Inputs.{Inputs}
 use Rattle.d_model.specs.Shown.{storage_of, plain_of}
 use Rattle.d_model.specs.declared.meter.Meter.{Meter}
 use Rattle.d_model.specs.declared.battery.Battery.{Battery as Stored}
 use Rattle.dispatch.specs.Words.{Asked, IsRequest}
-use Rattle.dispatch.specs.Answer.{Answer, IsAnswer, IsWithRecord, IsWithReadings, IsWithBattery, IsPlanned, refused, opens_record, opens_readings, opens_all, MeansPrice, MeansMonth, MeansBattery, hourly_inputs, no_request, request, record_too_long, no_price, has_price, readings_too_long, no_month, has_month, battery_too_long, no_battery, has_battery, no_schedule, least}
-use Rattle.dispatch.specs.Replies.{IsReply, SaysNoSchedule, ShowsLeast}
-use Rattle.dispatch.specs.StageResults.{IsStage, IsTooLong, HasNoMeaning, GivesPrice, GivesMonth, GivesBattery, RefusesRecord, RefusesReadings, RefusesBattery, IsPrepared, StopsOpening, Prepares}
+use Rattle.dispatch.specs.Answer.{Answer, IsAnswer, IsPlanned, refused, opens_record, opens_readings, opens_all, hourly_inputs, no_request, request, record_too_long, no_price, has_price, readings_too_long, no_month, has_month, battery_too_long, no_battery, has_battery, no_schedule, least}
+use Rattle.dispatch.specs.Replies.{IsReply}
+use Rattle.dispatch.specs.StageResults.{IsStage, GivesPrice, GivesMonth, GivesBattery, RefusesRecord, RefusesReadings, RefusesBattery, IsPrepared, StopsOpening, Prepares}
 use Rattle.dispatch.specs.declared.plan.Reply.{Reply}
 use Rattle.dispatch.specs.declared.fault.Refusal.{Refusal}
 use Rattle.dispatch.specs.declared.fault.Refusal.TheVariants.{Words, LongRecord, Record, LongReadings, Readings, LongBattery, Battery}

@@ -1,10 +1,8 @@
 -- A row says at most one thing.
-use Rattle.std.proofs.Common.{◌≡◌, ℕ, zero, suc, ◌^◌, ◌<◌, ◌≤◌, ℤ, pos, negsuc, ◌≤ℤ◌, neg_ℤ, List, [], ◌∷◌, length, FitsSigned, arith, refl, sym, ap, ◌∙◌, subst, inl, inr, codes}
+use Rattle.std.proofs.Common.{◌≡◌, ℕ, ◌^◌, ◌<◌, ◌≤◌, ℤ, pos, ◌≤ℤ◌, List, [], length, FitsSigned, arith, sym, ap, ◌∙◌, subst, inl, inr, codes}
 use Rattle.std.specs.Int.{w64}
-use Rattle.std.specs.Fmt.{signed_decimal}
 use Rattle.std.proofs.lemmas.Int.{ints}
 use Rattle.std.proofs.lemmas.Fmt.{signed_decimal_injective, decimal_nonempty}
-use Rattle.d_num.specs.Amount.{IsWithin, IsUpTo}
 use Rattle.dispatch.specs.Number.{IsWholeText}
 use Rattle.d_model.specs.declared.mode.Mode.{Mode}
 use Rattle.dispatch.specs.declared.entry.Entry.{Entry}
@@ -39,7 +37,8 @@ pub level_none : (absent : ℕ) (cell : List ℕ) → 0 < length cell → ((numb
 level_none absent cell some bad level small (inl empty) = let none = ap (λ (t : List ℕ). length t) empty.0 in omega arith
 level_none absent cell some bad level small (inr text) = bad (pos level) text (omega (arith, ints)) (omega (arith, ints))
 
-kinds_differ : codes "mode" ≡ codes "set" → ⊥
+-- a row has one kind
+pub kinds_differ : codes "mode" ≡ codes "set" → ⊥
 kinds_differ e = let long : length (codes "mode") ≡ length (codes "set") = ap length e in omega arith
 
 -- a mode's row sets no number

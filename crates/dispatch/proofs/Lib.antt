@@ -32,3 +32,5 @@ pub mod WholeFound
 pub mod MonthFound
 pub mod EntryFound
 pub mod BatteryFound
+pub mod DraftFacts
+pub mod EntryLists

@@ -1,7 +1,7 @@
 -- Taking a byte order mark off.
-use Rattle.std.proofs.Common.{◌≡◌, ℕ, ◌-◌, ◌≤◌, List, [], ◌∷◌, length, take, drop, slice_index, arith, refl, Bool, true, false}
+use Rattle.std.proofs.Common.{◌≡◌, ℕ, ◌-◌, List, [], ◌∷◌, length, take, drop, arith, refl}
 use Rattle.std.proofs.lemmas.List.{take_all}
-use Rattle.csv.specs.Reading.{strip_bom, is_bom}
+use Rattle.csv.specs.Reading.{strip_bom}
 use Rattle.dispatch.specs.Table.{HasMark}
 
 -- with a mark at its front a text goes on behind it

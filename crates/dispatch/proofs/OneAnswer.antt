@@ -1,13 +1,12 @@
 -- To a list of words and files there is one answer at most.
-use Rattle.std.proofs.Common.{◌≡◌, ℕ, ℤ, pos, ◌^◌, ◌<◌, ◌≤◌, List, [], ◌∷◌, length, refl, sym, ap, subst, ◌∙◌, arith, codes}
-use Rattle.d_desk.specs.Scene.{Files, bytes_in}
+use Rattle.std.proofs.Common.{◌≡◌, ℕ, ℤ, List, sym, ap, subst, ◌∙◌, arith}
+use Rattle.d_desk.specs.Scene.{Files}
 use Rattle.d_model.specs.Storage.{Storage}
 use Rattle.d_model.specs.Inputs.{Inputs}
-use Rattle.d_model.specs.Bills.{IsFirstLeast}
 use Rattle.d_model.proofs.Laws.{first_least_same}
-use Rattle.dispatch.specs.Words.{Asked, IsRequest}
-use Rattle.dispatch.specs.Text.{line, plan_text}
-use Rattle.dispatch.specs.Answer.{Answer, IsAnswer, IsWithRecord, IsWithReadings, IsWithBattery, IsPlanned, opens_all, MeansPrice, MeansMonth, MeansBattery, hourly_inputs, no_request, request, record_too_long, no_price, has_price, readings_too_long, no_month, has_month, battery_too_long, no_battery, has_battery, no_schedule, least}
+use Rattle.dispatch.specs.Words.{Asked}
+use Rattle.dispatch.specs.Text.{plan_text}
+use Rattle.dispatch.specs.Answer.{Answer, IsAnswer, IsWithRecord, IsWithReadings, IsWithBattery, IsPlanned, opens_all, hourly_inputs, no_request, request, record_too_long, no_price, has_price, readings_too_long, no_month, has_month, battery_too_long, no_battery, has_battery, no_schedule, least}
 use Rattle.dispatch.specs.declared.verdict.Verdict.TheVariants as verdict
 use Rattle.dispatch.proofs.AnswerFacts.{one_request}
 use Rattle.dispatch.proofs.FileLaws.{price_same, month_same, battery_same}

@@ -1,5 +1,5 @@
 -- The modes and levels of a feasible schedule.
-use Rattle.std.proofs.Common.{◌≡◌, ℕ, ℤ, pos, ◌+◌, ◌<◌, ◌≤◌, ◌+ℤ◌, List, ◌++◌, length, Some, refl, sym, ap, ◌∙◌, subst, arith, get_or, slice_get, slice_index, append_assoc}
+use Rattle.std.proofs.Common.{◌≡◌, ℕ, ℤ, pos, ◌+◌, ◌<◌, ◌+ℤ◌, List, ◌++◌, length, Some, refl, sym, ap, ◌∙◌, subst, arith, get_or, slice_get, slice_index, append_assoc}
 use Rattle.std.proofs.lemmas.Int.{ints}
 use Rattle.std.proofs.lemmas.Option.{slice_get_within, slice_get_read}
 use Rattle.d_num.specs.Amount.{IsUpTo}
@@ -37,9 +37,11 @@ pub interval_more : (i : Inputs) (s : List ℕ) (t level after : ℕ) (mode : Mo
     → before ≡ old ++ schedule_lines i s t → pos level ≡ level_at i s t → pos after ≡ pos level +ℤ mode.change → now ≡ before ++ level_line i t mode (pos after)
     → (now ≡ old ++ schedule_lines i s (t + 1)) × (pos after ≡ level_at i s (t + 1))
 interval_more i s t level after mode old before now there lines stands moves put =
-    let next : pos after ≡ level_at i s (t + 1) = level_more i s t level after stands (moves ∙ ap (λ (z : ℤ). pos level +ℤ z) (sym (change_there i (slice_index s t) mode there))) in
-    (put
-    ∙ ap (λ (list : List ℕ). list ++ level_line i t mode (pos after)) lines
-    ∙ append_assoc old (schedule_lines i s t) (level_line i t mode (pos after))
-    ∙ ap (λ (list : List ℕ). old ++ list) (ap (λ (z : ℤ). schedule_lines i s t ++ level_line i t mode z) next
-    ∙ ap (λ (list : List ℕ). schedule_lines i s t ++ list) (sym (line_there i s t mode there)) ∙ sym (lines_more i s t)), next)
+    let next : pos after ≡ level_at i s (t + 1) = level_more i s t level after stands (moves ∙ ap (λ (z : ℤ). pos level +ℤ z) (sym (change_there i (slice_index s t) mode there))) in (
+      put
+          ∙ ap (λ (list : List ℕ). list ++ level_line i t mode (pos after)) lines
+          ∙ append_assoc old (schedule_lines i s t) (level_line i t mode (pos after))
+          ∙ ap (λ (list : List ℕ). old ++ list) (ap (λ (z : ℤ). schedule_lines i s t ++ level_line i t mode z) next
+          ∙ ap (λ (list : List ℕ). schedule_lines i s t ++ list) (sym (line_there i s t mode there)) ∙ sym (lines_more i s t)),
+      next,
+    )

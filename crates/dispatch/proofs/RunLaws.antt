@@ -1,11 +1,11 @@
 -- How a run ends by what it has prepared and printed, over plain scenes.
-use Rattle.std.proofs.Common.{◌≡◌, ℕ, List, [], ◌++◌, Result, Ok, Err, refl, sym, ap, subst, ◌∙◌}
+use Rattle.std.proofs.Common.{◌≡◌, ℕ, List, [], ◌++◌, Err, refl, ap, subst, ◌∙◌}
 use Rattle.d_desk.specs.Front.{IsFront, GainsFront}
-use Rattle.d_desk.specs.Scene.{Files, Scene}
-use Rattle.d_desk.specs.Stages.{Opens, OpensSome, PrintsOnly, PrintsFront}
+use Rattle.d_desk.specs.Scene.{Scene}
+use Rattle.d_desk.specs.Stages.{PrintsOnly, PrintsFront}
 use Rattle.d_desk.proofs.Fronts.{gains_none, gains_all}
-use Rattle.dispatch.specs.Answer.{Answer, IsAnswer, refused}
-use Rattle.dispatch.specs.Runs.{IsAnswered, IsCutShort}
+use Rattle.dispatch.specs.Answer.{Answer, refused}
+use Rattle.dispatch.specs.Runs.{IsCutShort}
 use Rattle.dispatch.specs.StageResults.{IsPrepared, StopsOpening, Gives, Prepares}
 use Rattle.dispatch.specs.declared.verdict.Verdict.{Verdict}
 use Rattle.dispatch.specs.declared.fault.Refusal.{Refusal}

@@ -1,11 +1,10 @@
 -- How the stages of a run end, over plain scenes.
-use Rattle.std.proofs.Common.{◌≡◌, ◌⊎◌, inl, inr, ℕ, ℤ, pos, ◌^◌, ◌<◌, ◌≤◌, List, [], ◌∷◌, length, Result, Ok, Err, refl, sym, ap, subst, ◌∙◌}
-use Rattle.d_desk.specs.Scene.{Files, Scene, Opening, opening, bytes_in}
-use Rattle.d_desk.specs.Stages.{Opens, OpensSome}
+use Rattle.std.proofs.Common.{◌≡◌, List, Err, refl}
+use Rattle.d_desk.specs.Scene.{Scene, Opening}
+use Rattle.d_desk.specs.Stages.{Opens}
 use Rattle.d_desk.proofs.StageLaws.{opens_some_all}
-use Rattle.dispatch.specs.StageResults.{IsStage, fault_of, HasNoMeaning, IsTooLong}
+use Rattle.dispatch.specs.StageResults.{IsStage, fault_of}
 use Rattle.dispatch.specs.declared.fault.Refusal.{Refusal}
-use Rattle.dispatch.specs.declared.fault.Fault.{Fault}
 use Rattle.dispatch.specs.declared.fault.ReadFault.{ReadFault}
 use Rattle.dispatch.specs.declared.fault.ReadFault.TheVariants.{Refused, Memory}
 

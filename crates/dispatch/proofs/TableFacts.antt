@@ -1,5 +1,5 @@
 -- How a table's rows of cells lie over the records that are kept.
-use Rattle.std.proofs.Common.{◌≡◌, ℕ, ◌<◌, List, [], ◌∷◌, length, map, get_or, Option, None, Some, Bor, IsSome, arith, refl, sym, ap, ◌∙◌, Bool, true, false, nat_lt, position}
+use Rattle.std.proofs.Common.{◌≡◌, ℕ, ◌<◌, List, [], length, map, get_or, Option, None, Some, Bor, IsSome, arith, refl, sym, ap, ◌∙◌, Bool, true, false, nat_lt, position}
 use Rattle.std.specs.List.{position_or_len}
 use Rattle.std.specs.Str.{str_to_ascii_lowercase}
 use Rattle.std.proofs.lemmas.List.Sums.{position_or_len_is}

@@ -1,10 +1,9 @@
 -- Whole numbers and their texts.
-use Rattle.std.proofs.Common.{◌≡◌, ◌≢◌, ℕ, zero, suc, ◌+◌, ◌-◌, ◌*◌, ◌^◌, ◌<◌, ◌≤◌, ℤ, pos, negsuc, neg_ℤ, List, [], ◌∷◌, length, drop, get_or, slice_index, FitsSigned, MatchResult, Result, Ok, Err, arith, rules, refl, sym, ap, ◌∙◌, subst, inl, inr}
+use Rattle.std.proofs.Common.{◌≡◌, ◌≢◌, ℕ, zero, suc, ◌^◌, ◌<◌, ◌≤◌, ℤ, pos, negsuc, neg_ℤ, List, [], ◌∷◌, length, get_or, FitsSigned, Ok, Err, arith, refl, sym, ap, ◌∙◌, subst, inl, inr}
 use Rattle.std.specs.Int.{w64, IsInRange}
 use Rattle.std.specs.Int.Signed.{mag}
 use Rattle.std.specs.Fmt.{decimal, signed_decimal}
 use Rattle.std.specs.Str.{IsUtf8}
-use Rattle.std.specs.Result.{OkIff}
 use Rattle.std.specs.Str.Parse.{AllDigits, IsNumeral, digits_value, signed_digits_value, without_leading_sign}
 use mir.Val.{to_z, of_z}
 use Rattle.std.proofs.lemmas.Int.{to_z-of_z}

@@ -1,5 +1,5 @@
 -- A battery file. Its form, its ranges and what stands for an absent number are our own.
-use Rattle.std.specs.Prelude.{◌≡◌, ◌⊎◌, ℕ, ◌+◌, ◌^◌, ◌<◌, ◌≤◌, Bool, true, false, ◌||◌, ◌&&◌, ◌==◌, nat_le, ℤ, pos, List, [], ◌∷◌, length, All, Option, Some, None, unwrap_or, slice_get, codes, if◌then◌else◌, IsTrue}
+use Rattle.std.specs.Prelude.{◌≡◌, ◌⊎◌, ℕ, ◌+◌, ◌^◌, ◌≤◌, Bool, true, false, ◌||◌, ◌&&◌, ◌==◌, nat_le, ℤ, pos, List, [], ◌∷◌, length, All, Option, Some, unwrap_or, slice_get, codes, if◌then◌else◌, IsTrue}
 use Rattle.d_num.specs.Amount.{IsUpTo}
 use Rattle.d_model.specs.declared.mode.Mode.{Mode}
 use Rattle.d_model.specs.Storage.{Storage, IsMode, IsStorage}

@@ -14,3 +14,4 @@ pub mod PlanWays
 pub mod StageResults
 pub mod PlanLines
 pub mod Law
+pub mod Draft

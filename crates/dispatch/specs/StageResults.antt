@@ -1,10 +1,9 @@
 -- What the stages of a run leave, each by the cases of what it answers.
-use Rattle.std.specs.Prelude.{◌≡◌, ◌⊎◌, ℕ, ℤ, pos, ◌^◌, ◌<◌, ◌≤◌, List, [], ◌∷◌, length, Result, Ok, Err, Vec}
+use Rattle.std.specs.Prelude.{◌≡◌, ◌⊎◌, ℕ, ℤ, pos, ◌^◌, ◌<◌, ◌≤◌, List, [], length, Result, Ok, Err, Vec}
 use Rattle.std.specs.declared.alloc.Global.{Global}
-use Rattle.d_desk.specs.Scene.{Files, Scene, Opening, opening, bytes_in}
+use Rattle.d_desk.specs.Scene.{Files, Scene, Opening, bytes_in}
 use Rattle.d_desk.specs.Front.{GainsFront}
 use Rattle.d_desk.specs.Stages.{Opens, OpensSome}
-use Rattle.d_desk.specs.declared.opened.Direction.TheVariants.{In}
 use Rattle.d_desk.specs.declared.fault.DeskFault.{DeskFault}
 use Rattle.d_model.specs.Storage.{Storage}
 use Rattle.d_model.specs.Shown.{storage_of}

@@ -1,6 +1,6 @@
 //! The first least schedule of a problem, found over the ways of its battery's modes.
 
-ghost use Rattle.std.specs.Prelude.{◌≡◌, ◌<◌, ◌≤◌, ℕ, List, ◌∷◌, length, map, MatchOption, IfOk};
+ghost use Rattle.std.specs.Prelude.{◌≡◌, ◌<◌, ℕ, List, length, map, MatchOption, IfOk};
 ghost use Rattle.d_model.specs.Shown.{inputs_of};
 ghost use Rattle.d_model.specs.Schedules.{IsFeasible};
 ghost use Rattle.d_model.specs.Bills.{IsFirstLeast};

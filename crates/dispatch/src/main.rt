@@ -3,6 +3,7 @@
 
 mod answer;
 mod battery;
+mod draft;
 mod entry;
 mod fault;
 mod law;

@@ -1,4 +1,4 @@
-use Rattle.std.proofs.Common.{◌≡◌, ◌∙◌, ap, inr, Err, sym, subst, refl, List, ℕ}
+use Rattle.std.proofs.Common.{◌∙◌, ap, inr, Err, sym, subst, refl, List, ℕ}
 use Rattle.dispatch.specs.BatteryFile.{IsBatteryFile}
 use Rattle.dispatch.specs.Table.{rows_of}
 use Rattle.dispatch.specs.declared.fault.Refusal.TheVariants.{Battery}

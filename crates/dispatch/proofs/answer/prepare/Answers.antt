@@ -1,4 +1,3 @@
-use Rattle.std.proofs.Common.{◌≡◌, ◌∙◌, ap, Err, Ok, sym, subst, refl, List, ℕ, map, string_bytes}
 use Rattle.std.proofs.lemmas.Result.{err_from_is_err_and}
 use Rattle.d_desk.proofs.StageLaws.{opens_then}
 use Rattle.dispatch.specs.Asking.{asked_of}

@@ -1,9 +1,9 @@
-use Rattle.std.proofs.Common.{◌≡◌, ◌∙◌, ap, Err, Ok, sym, subst, refl, List, ℕ}
+use Rattle.std.proofs.Common.{◌∙◌, subst, refl, List, ℕ}
 use Rattle.std.proofs.lemmas.Result.{err_from_is_err_and}
 use Rattle.dispatch.specs.declared.fault.Fault.TheVariants.{Failed, Memory}
 use Rattle.d_desk.specs.Stages.{PrintsFront}
 use Rattle.dispatch.specs.Answer.{refusal_text}
-use Rattle.dispatch.proofs.RunLaws.{gives_answer, cut_in_print, cut_by_fault, refusal_known}
+use Rattle.dispatch.proofs.RunLaws.{cut_in_print, cut_by_fault, refusal_known}
 use Rattle.dispatch.proofs.answer.reply.Goals as goal
 
 pub returns-in_err-print_all-in-Ok-clause-told : goal.returns-in_err-print_all-in-Ok-clause-told

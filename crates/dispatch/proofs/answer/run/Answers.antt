@@ -1,5 +1,5 @@
-use Rattle.std.proofs.Common.{◌≡◌, ◌∙◌, ap}
-use Rattle.dispatch.specs.Runs.{Runs, answered, status_of}
+use Rattle.std.proofs.Common.{◌∙◌, ap}
+use Rattle.dispatch.specs.Runs.{answered, status_of}
 use Rattle.dispatch.proofs.answer.run.Goals as goal
 
 pub returns-in-Ok-clause-told : goal.returns-in-Ok-clause-told

@@ -1,4 +1,4 @@
-use Rattle.std.proofs.Common.{arith, rules, ◌≡◌, FitsSigned}
+use Rattle.std.proofs.Common.{arith, rules, FitsSigned}
 use Rattle.std.specs.Int.{w64}
 use Rattle.std.proofs.lemmas.Int.{ints}
 use Rattle.dispatch.proofs.EntryFacts.{whole_same, fits_between}

@@ -1,4 +1,4 @@
-use Rattle.std.proofs.Common.{arith, rules, ◌≤◌}
+use Rattle.std.proofs.Common.{rules, ◌≤◌}
 use Rattle.dispatch.specs.Table.{row_at}
 use Rattle.dispatch.proofs.NoValues.{IfNone_since}
 use Rattle.dispatch.proofs.EntryFacts.{low_none, high_none, order_none}

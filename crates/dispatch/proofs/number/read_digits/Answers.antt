@@ -1,4 +1,4 @@
-use Rattle.std.proofs.Common.{arith, ◌≤◌, length}
+use Rattle.std.proofs.Common.{arith}
 use Rattle.dispatch.proofs.PriceTexts.{IsUtf8-digits, digits_none}
 use Rattle.dispatch.proofs.number.read_digits.Goals as goal
 

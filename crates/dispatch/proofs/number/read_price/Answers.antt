@@ -1,4 +1,4 @@
-use Rattle.std.proofs.Common.{sym, ◌∙◌, ℕ, IfSome}
+use Rattle.std.proofs.Common.{sym, ◌∙◌}
 use Rattle.std.proofs.lemmas.Option.{IfSome_then}
 use Rattle.dispatch.proofs.PriceTexts.{no_point, no_whole, no_fraction, dear_none, price_some, digits_small}
 use Rattle.dispatch.proofs.NoValues.{IfNone_then}

@@ -1,4 +1,4 @@
-use Rattle.std.proofs.Common.{◌≡◌, ℕ, pos, List, Some, ◌++◌, length, ◌<◌, arith, sym, ap, ◌∙◌, slice_get, slice_index}
+use Rattle.std.proofs.Common.{◌≡◌, ℕ, pos, List, Some, ◌++◌, length, arith, sym, ap, ◌∙◌, slice_get, slice_index}
 use Rattle.std.proofs.lemmas.List.{append-nil}
 use Rattle.d_model.specs.declared.mode.Mode.{Mode}
 use Rattle.d_model.specs.Storage.{Storage}

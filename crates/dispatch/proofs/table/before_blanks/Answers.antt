@@ -1,5 +1,5 @@
-use Rattle.std.proofs.Common.{◌≡◌, ◌-◌, ◌∙◌, sym, arith, length, take, refl}
-use Rattle.dispatch.specs.Table.{without_back, is_blank}
+use Rattle.std.proofs.Common.{◌∙◌, arith}
+use Rattle.dispatch.specs.Table.{is_blank}
 use Rattle.dispatch.proofs.Blanks.{without_back-more, without_back-stop, without_back-none}
 use Rattle.dispatch.proofs.table.before_blanks.Goals as goal
 use Rattle.dispatch.proofs.table.before_blanks.Goals.{then-loop-end-test+else-is_blank, else-loop-end-test}

@@ -1,6 +1,6 @@
-use Rattle.std.proofs.Common.{◌≡◌, ◌-◌, ◌∙◌, sym, arith, length, take, drop, length-drop, refl}
+use Rattle.std.proofs.Common.{◌-◌, ◌∙◌, sym, arith, length, drop, length-drop}
 use Rattle.std.proofs.lemmas.List.{take_all}
-use Rattle.dispatch.specs.Table.{without_front, is_blank}
+use Rattle.dispatch.specs.Table.{is_blank}
 use Rattle.dispatch.proofs.Blanks.{without_front-more, without_front-stop, without_front-end}
 use Rattle.dispatch.proofs.table.behind_blanks.Goals as goal
 use Rattle.dispatch.proofs.table.behind_blanks.Goals.{then-loop-start-test+else-is_blank, else-loop-start-test}

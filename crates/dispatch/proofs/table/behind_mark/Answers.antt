@@ -1,4 +1,4 @@
-use Rattle.std.proofs.Common.{arith, ◌≤◌, length, refl, sym, ◌∙◌}
+use Rattle.std.proofs.Common.{arith, sym}
 use Rattle.dispatch.specs.Table.{HasMark}
 use Rattle.dispatch.proofs.Marks.{strip_bom-mark, strip_bom-no_mark}
 use Rattle.dispatch.proofs.table.behind_mark.Goals as goal

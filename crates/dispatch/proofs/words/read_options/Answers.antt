@@ -1,4 +1,4 @@
-use Rattle.std.proofs.Common.{map, string_bytes, ◌≡◌, length, refl}
+use Rattle.std.proofs.Common.{refl}
 use Rattle.std.proofs.lemmas.List.{length-map}
 use Rattle.dispatch.proofs.NineWords.{nine_words}
 use Rattle.dispatch.proofs.words.read_options.Goals as goal

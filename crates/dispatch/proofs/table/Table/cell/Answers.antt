@@ -1,8 +1,7 @@
-use Rattle.std.proofs.Common.{rules, ◌≡◌, ℕ, ◌<◌, List, length, map, [], get_or, Some, arith, sym, ap, ◌∙◌, refl}
-use Rattle.std.specs.Option.{option_map}
+use Rattle.std.proofs.Common.{◌≡◌, ℕ, ◌<◌, List, length, map, Some, arith, sym, ap, ◌∙◌, refl}
 use Rattle.std.proofs.lemmas.List.{length-map}
 use Rattle.csv.specs.Records.{fields_of, field_at}
-use Rattle.dispatch.specs.Table.{row_at, cell_in, trimmed}
+use Rattle.dispatch.specs.Table.{row_at, trimmed}
 use Rattle.dispatch.proofs.TableFacts.{cells_of, row_is, field_found, cell_is}
 use Rattle.dispatch.proofs.table.Table.cell.Goals as goal
 

@@ -1,4 +1,4 @@
-use Rattle.std.proofs.Common.{◌≡◌, ℕ, List, ◌<◌, length, sym, ap, arith, ◌∙◌, bytes_eq, true, get_or, []}
+use Rattle.std.proofs.Common.{◌≡◌, sym, ap, arith, ◌∙◌, bytes_eq}
 use Rattle.std.specs.Str.{str_to_ascii_lowercase}
 use Rattle.std.proofs.lemmas.Slice.Eq.{bytes_eq-Decides}
 use Rattle.dispatch.specs.Table.{row_at, cell_in}

@@ -1,7 +1,6 @@
-use Rattle.std.proofs.Common.{◌≡◌, ℕ, List, ◌<◌, length, sym, ap, arith, ◌∙◌, true, false, get_or, [], map, Bor, refl}
+use Rattle.std.proofs.Common.{◌≡◌, ap, arith, ◌∙◌, true, false, refl}
 use Rattle.std.specs.Str.{str_to_ascii_lowercase}
-use Rattle.std.proofs.lemmas.List.{get_or-map}
-use Rattle.dispatch.specs.Table.{row_at, cell_in, IsHeader}
+use Rattle.dispatch.specs.Table.{row_at}
 use Rattle.dispatch.proofs.TableFacts.{names_are, name_at}
 use Rattle.dispatch.proofs.table.Table.has_header.Goals as goal
 
