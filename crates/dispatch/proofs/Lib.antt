@@ -34,3 +34,4 @@ pub mod EntryFound
 pub mod BatteryFound
 pub mod DraftFacts
 pub mod EntryLists
+pub mod AnswerFound
