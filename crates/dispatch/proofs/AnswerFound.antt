@@ -1,5 +1,5 @@
 -- To every list of words and all files there is an answer.
-use Rattle.std.proofs.Common.{◌≡◌, ◌⊎◌, inl, inr, ℕ, ◌+◌, ◌*◌, ◌^◌, ◌<◌, ◌≤◌, ℤ, pos, ◌≤ℤ◌, List, [], ◌∷◌, length, All, get_or, codes, refl, sym, ap, subst, ◌∙◌, arith}
+use Rattle.std.proofs.Common.{◌≡◌, ◌⊎◌, inl, inr, ℕ, ◌*◌, ◌^◌, ◌<◌, ◌≤◌, ℤ, pos, ◌≤ℤ◌, List, length, get_or, refl, subst, arith}
 use Rattle.std.proofs.lemmas.Int.{ints}
 use Rattle.std.proofs.lemmas.List.{get_or_default}
 use Rattle.jiff_core.specs.Calendar.{days_in_month}
@@ -10,15 +10,12 @@ use Rattle.d_model.specs.Storage.{Storage}
 use Rattle.d_model.specs.Inputs.{Inputs, IsInRange}
 use Rattle.d_model.specs.Schedules.{IsFeasible}
 use Rattle.d_model.specs.Bills.{IsFirstLeast}
-use Rattle.dispatch.specs.Table.{rows_of, row_at}
+use Rattle.dispatch.specs.Table.{rows_of}
 use Rattle.dispatch.specs.Words.{Asked, IsRequest}
 use Rattle.dispatch.specs.Record.{IsRecord}
 use Rattle.dispatch.specs.ReadingsFile.{IsReadingsFile}
 use Rattle.dispatch.specs.BatteryFile.{IsBatteryFile}
-use Rattle.dispatch.specs.Text.{line, plan_text}
-use Rattle.dispatch.specs.Answer.{Answer, IsAnswer, IsWithRecord, IsWithReadings, IsWithBattery, IsPlanned, refused, opens_record, opens_readings, opens_all, MeansPrice, MeansMonth, MeansBattery, hourly_inputs, no_request, request, record_too_long, no_price, has_price, readings_too_long, no_month, has_month, battery_too_long, no_battery, has_battery, no_schedule, least}
-use Rattle.dispatch.specs.declared.verdict.Verdict.TheVariants as verdict
-use Rattle.dispatch.specs.declared.fault.Refusal.TheVariants.{Words, LongRecord, Record, LongReadings, Readings, LongBattery, Battery}
+use Rattle.dispatch.specs.Answer.{Answer, IsAnswer, IsWithRecord, IsWithReadings, IsWithBattery, IsPlanned, MeansPrice, MeansMonth, MeansBattery, hourly_inputs, no_request, request, record_too_long, no_price, has_price, readings_too_long, no_month, has_month, battery_too_long, no_battery, has_battery, no_schedule, least}
 use Rattle.dispatch.specs.Law.{HasAnswer}
 use Rattle.dispatch.proofs.LeastWays.{exists_least}
 use Rattle.dispatch.proofs.OneAnswer.{answer_same}
@@ -61,6 +58,7 @@ record Has (P : Answer → Type 0) : Type 0 where
   answer : Answer
   is : P answer
 
+-- inputs in range have a plan or none
 planned : (i : Inputs) (asked : Asked) → IsInRange i → Has (IsPlanned i asked)
 planned i asked fine = by_schedule (exists_least i fine)
   where
@@ -68,6 +66,7 @@ planned i asked fine = by_schedule (exists_least i fine)
     by_schedule (inl none) = record { answer = _; is = no_schedule none refl }
     by_schedule (inr first) = record { answer = _; is = least first.0 first.1 refl }
 
+-- the answer to a request, file by file
 module _ (files : Files) (asked : Asked) where
   with_battery : (price : ℕ) (year : ℤ) (number : ℕ) (net : List ℤ) → MeansPrice files asked price → MeansMonth files asked year number net
       → Has (IsWithBattery files asked price year number net)

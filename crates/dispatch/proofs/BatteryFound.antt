@@ -1,5 +1,5 @@
 -- A battery file is one battery, or none.
-use Rattle.std.proofs.Common.{◌≡◌, ℕ, ◌+◌, ◌-◌, ◌^◌, ◌<◌, ◌≤◌, ℤ, pos, List, [], ◌∷◌, length, drop, map, get_or, slice_get, unwrap_or, unsigned_abs, Option, Some, None, codes, refl, sym, ap, subst, ◌∙◌, arith}
+use Rattle.std.proofs.Common.{◌≡◌, ℕ, ◌+◌, ◌-◌, ◌^◌, ◌<◌, ◌≤◌, ℤ, pos, List, [], length, drop, map, get_or, slice_get, unwrap_or, unsigned_abs, Option, Some, None, refl, sym, ap, subst, ◌∙◌, arith}
 use Rattle.std.specs.Str.{str_to_ascii_lowercase}
 use Rattle.std.proofs.lemmas.List.{length-map, get_or-map, get_or-drop, length-drop, ext_get_or}
 use Rattle.std.proofs.lemmas.Option.{slice_get-get_or}
@@ -8,20 +8,22 @@ use Rattle.d_model.specs.Storage.{Storage, IsMode, IsStorage, HasDifferentNames}
 use Rattle.dispatch.specs.declared.entry.Setting.{Setting}
 use Rattle.dispatch.specs.declared.entry.Setting.TheVariants.{Capacity, Floor, Start, End, MaxImport, MaxExport}
 use Rattle.dispatch.specs.declared.entry.Entry.{Entry}
-use Rattle.dispatch.specs.declared.entry.Entry.TheVariants.{Sets, Has}
+use Rattle.dispatch.specs.declared.entry.Entry.TheVariants.{Sets}
 use Rattle.dispatch.specs.Table.{row_at, IsHeader}
 use Rattle.dispatch.specs.BatteryFile.{IsBatteryFile, IsEntry, battery_header, values_of, value_of, modes_of}
 use Rattle.dispatch.proofs.EntryFound.{entry_in, entry_only, entry_decided, mode_decided}
-use Rattle.dispatch.proofs.Deciding.{Decided, holds, fails, Found, both, where_so, restated, candidate, at_most, up_to, same_number, same_integer, same_text, same_cells, each_item, each_got}
+use Rattle.dispatch.proofs.Deciding.{Decided, fails, Found, both, where_so, restated, candidate, at_most, up_to, same_number, same_integer, same_text, same_cells, each_item, each_got}
 
 -- the only entries that rows may be
 entries_in : List (List (List ℕ)) → List Entry
 entries_in rows = map entry_in (drop 1 rows)
 
+-- they are as many as the rows behind the header
 length-entries_in : (rows : List (List (List ℕ))) → length (entries_in rows) ≡ length rows - 1
 unfolding entries_in
 length-entries_in rows = length-map (drop 1 rows) entry_in ∙ length-drop 1 rows
 
+-- each is that of its row
 entry_at : (rows : List (List (List ℕ))) (k : ℕ) (d : Entry) → k + 1 < length rows → get_or (entries_in rows) k d ≡ entry_in (row_at rows (k + 1))
 unfolding entries_in
 entry_at rows k d within =
@@ -29,6 +31,7 @@ entry_at rows k d within =
     let place : 1 + k ≡ k + 1 = omega arith in
     get_or-map entry_in (drop 1 rows) k [] d (omega arith) ∙ ap entry_in (get_or-drop 1 rows k [] ∙ ap (λ (j : ℕ). get_or rows j []) place)
 
+-- a file has no other entries
 entries_only : (rows : List (List (List ℕ))) (storage : Storage) (file : IsBatteryFile rows storage) → file.entries ≡ entries_in rows
 entries_only rows storage file =
     let d : Entry = Sets Capacity (pos 0) in
@@ -52,22 +55,32 @@ record IsOf (rows : List (List (List ℕ))) (entries : List Entry) (storage : St
   modes : storage.modes ≡ modes_of entries
   valid : IsStorage storage
 
--- the only battery that entries may make
+-- a setting's number, or this one where the entries give none
 number_or : Setting → List Entry → ℕ → ℕ
 number_or setting entries other = unsigned_abs (unwrap_or (value_of setting entries) (pos other))
 
+-- a battery by its fields
 made : ℕ → ℕ → ℕ → ℕ → ℤ → ℤ → List Mode → Storage
 made floor capacity start end max_import max_export modes = record {
-  floor = floor; capacity = capacity; start = start; end = end; max_import = max_import; max_export = max_export; modes = modes;
+  floor = floor;
+  capacity = capacity;
+  start = start;
+  end = end;
+  max_import = max_import;
+  max_export = max_export;
+  modes = modes;
 }
 
+-- with this floor and this start
 storage_with : List Entry → ℕ → ℕ → Storage
 storage_with entries floor start = made floor (number_or Capacity entries 0) start (number_or End entries start)
     (unwrap_or (value_of MaxImport entries) (pos (10 ^ 10))) (unwrap_or (value_of MaxExport entries) (pos (10 ^ 10))) (modes_of entries)
 
+-- the only battery that entries may make
 storage_of : List Entry → Storage
 storage_of entries = storage_with entries (number_or Floor entries 0) (number_or Start entries (number_or Floor entries 0))
 
+-- entries make no other battery
 storage_only : (rows : List (List (List ℕ))) (entries : List Entry) (s : Storage) → IsOf rows entries s → s ≡ storage_of entries
 unfolding number_or made storage_with storage_of
 storage_only rows entries s is =
@@ -107,15 +120,27 @@ value_decided (Some y) z = restated (λ e. ap Some e) (λ e. inner e) (same_inte
     inner : Some y ≡ Some z → y ≡ z
     inner e = cc
 
+-- modes have different names
 names_decided : (modes : List Mode) → Decided (HasDifferentNames modes)
 names_decided modes = restated (λ h j k one other at there same. h j one at k other there same) (λ h j one at k other there same. h j k one other at there same)
     (each_got (λ j one. (k : ℕ) (other : Mode) → slice_get modes k ≡ Some other → one.name ≡ other.name → j ≡ k)
     (λ j one. each_got (λ k other. one.name ≡ other.name → j ≡ k) (λ k other. where_so (same_text one.name other.name) (same_number j k)) modes) modes)
 
+-- a battery is in its ranges
 storage_decided : (s : Storage) → Decided (IsStorage s)
 storage_decided s = restated
-    (λ h. record { floor = h.0.0; start = h.0.1.0; end = h.0.1.1.0; top = h.0.1.1.1.0; max_import = h.0.1.1.1.1.0; max_export = h.0.1.1.1.1.1;
-        some_mode = h.1.0; few_modes = h.1.1.0; modes = h.1.1.1.0; names = h.1.1.1.1 })
+    (λ h. record {
+      floor = h.0.0;
+      start = h.0.1.0;
+      end = h.0.1.1.0;
+      top = h.0.1.1.1.0;
+      max_import = h.0.1.1.1.1.0;
+      max_export = h.0.1.1.1.1.1;
+      some_mode = h.1.0;
+      few_modes = h.1.1.0;
+      modes = h.1.1.1.0;
+      names = h.1.1.1.1;
+    })
     (λ v. ((v.floor, (v.start, (v.end, (v.top, (v.max_import, v.max_export))))), (v.some_mode, (v.few_modes, (v.modes, v.names)))))
     (both (both (at_most s.floor s.start) (both (at_most s.start s.capacity) (both (at_most s.end s.capacity) (both (at_most s.capacity 255)
     (both (up_to (10 ^ 10) s.max_import) (up_to (10 ^ 10) s.max_export))))))
@@ -124,8 +149,20 @@ storage_decided s = restated
 -- made of the entries' modes, all else can be decided
 of_decided : (rows : List (List (List ℕ))) (entries : List Entry) (s : Storage) → s.modes ≡ modes_of entries → Decided (IsOf rows entries s)
 of_decided rows entries s modes = restated
-    (λ h. record { header = h.0.0; count = h.0.1.0; each = h.0.1.1.0; once = h.0.1.1.1.0; capacity = h.0.1.1.1.1.0; floor = h.0.1.1.1.1.1;
-        start = h.1.0; end = h.1.1.0; max_import = h.1.1.1.0; max_export = h.1.1.1.1.0; modes = modes; valid = h.1.1.1.1.1 })
+    (λ h. record {
+      header = h.0.0;
+      count = h.0.1.0;
+      each = h.0.1.1.0;
+      once = h.0.1.1.1.0;
+      capacity = h.0.1.1.1.1.0;
+      floor = h.0.1.1.1.1.1;
+      start = h.1.0;
+      end = h.1.1.0;
+      max_import = h.1.1.1.0;
+      max_export = h.1.1.1.1.0;
+      modes = modes;
+      valid = h.1.1.1.1.1;
+    })
     (λ o. ((o.header, (o.count, (o.each, (o.once, (o.capacity, o.floor))))), (o.start, (o.end, (o.max_import, (o.max_export, o.valid))))))
     (both
     (both (same_cells (map str_to_ascii_lowercase (row_at rows 0)) battery_header)
@@ -138,6 +175,7 @@ of_decided rows entries s modes = restated
     (both (same_integer s.max_import (unwrap_or (value_of MaxImport entries) (pos (10 ^ 10))))
     (both (same_integer s.max_export (unwrap_or (value_of MaxExport entries) (pos (10 ^ 10)))) (storage_decided s))))))
 
+-- it has the modes of its entries
 modes_are : (entries : List Entry) → (storage_of entries).modes ≡ modes_of entries
 unfolding made storage_with storage_of
 modes_are entries = refl
@@ -159,6 +197,7 @@ of_file rows s file = subst (λ (es : List Entry). IsOf rows es s) (entries_only
   valid = file.valid;
 })
 
+-- and the other way round
 file_of : (rows : List (List (List ℕ))) (entries : List Entry) (s : Storage) → IsOf rows entries s → IsBatteryFile rows s
 file_of rows entries s is = record {
   header = is.header;
@@ -176,6 +215,7 @@ file_of rows entries s is = record {
   valid = is.valid;
 }
 
+-- rows are one battery or none
 pub battery_found : (rows : List (List (List ℕ))) → Found (IsBatteryFile rows)
 battery_found rows = candidate (IsBatteryFile rows) (storage_of (entries_in rows))
     (λ s file. storage_only rows (entries_in rows) s (of_file rows s file))

@@ -1,5 +1,5 @@
 -- What can be decided over plain values: that it holds, or that it doesn't.
-use Rattle.std.proofs.Common.{◌≡◌, ◌⊎◌, inl, inr, ℕ, zero, suc, ◌<◌, ◌≤◌, Bool, true, false, ◌==◌, ltb, ℤ, pos, negsuc, ◌≤ℤ◌, List, [], ◌∷◌, length, All, slice_get, Decides, bytes_eq, IsTrue, refl, sym, ap, ◌∙◌, arith, Option, None, Some, true≢false}
+use Rattle.std.proofs.Common.{◌≡◌, ◌⊎◌, inl, inr, ℕ, zero, suc, ◌<◌, ◌≤◌, Bool, true, false, ◌==◌, ltb, ℤ, pos, negsuc, ◌≤ℤ◌, List, [], ◌∷◌, length, All, slice_get, Decides, bytes_eq, IsTrue, refl, sym, ◌∙◌, arith, Option, None, Some, true≢false}
 use Rattle.std.proofs.lemmas.Bool.Decides.{Decides-eqb, Decides-ltb, Decides-int_eq}
 use Rattle.std.proofs.lemmas.Slice.Eq.{bytes_eq-Decides, slice_eq-Decides}
 use Rattle.std.specs.Cmp.Lexicographic.{pointwise}
@@ -9,6 +9,7 @@ use Rattle.std.proofs.lemmas.Int.{ints}
 use Rattle.std.proofs.lemmas.Option.{slice_get_within}
 use Rattle.d_num.specs.Amount.{IsWithin, IsUpTo}
 
+-- it holds, or it does not
 pub data Decided (P : Type 0) : Type 0 where
   holds : P → Decided P
   fails : (P → ⊥) → Decided P
@@ -59,15 +60,19 @@ restated there back (fails none) = fails (λ q. none (back q))
 pub same_number : (x y : ℕ) → Decided (x ≡ y)
 same_number x y = by_test (x == y) (Decides-eqb x y)
 
+-- one is below another
 pub is_below : (x y : ℕ) → Decided (x < y)
 is_below x y = by_test (ltb x y) (Decides-ltb x y)
 
+-- one is at most another
 pub at_most : (x y : ℕ) → Decided (x ≤ y)
 at_most x y = restated (λ lt. omega arith) (λ le. omega arith) (is_below x (suc y))
 
+-- integers
 pub same_integer : (x y : ℤ) → Decided (x ≡ y)
 same_integer x y = by_test _ (Decides-int_eq x y)
 
+-- one is at most another
 pub integer_at_most : (x y : ℤ) → Decided (x ≤ℤ y)
 integer_at_most (pos m) (pos n) = restated (λ le. omega (arith, ints)) (λ le. omega (arith, ints)) (at_most m n)
 integer_at_most (pos m) (negsuc n) = fails (λ le. omega (arith, ints))
@@ -78,6 +83,7 @@ integer_at_most (negsuc m) (negsuc n) = restated (λ le. omega (arith, ints)) (�
 pub within : (most : ℕ) (z : ℤ) → Decided (IsWithin most z)
 within most z = both (integer_at_most _ z) (integer_at_most z _)
 
+-- from 0 to a bound
 pub up_to : (most : ℕ) (z : ℤ) → Decided (IsUpTo most z)
 up_to most z = both (integer_at_most _ z) (integer_at_most z _)
 
@@ -90,6 +96,7 @@ is_true false = fails (λ e. true≢false (sym e))
 pub same_text : (xs ys : List ℕ) → Decided (xs ≡ ys)
 same_text xs ys = by_test (bytes_eq xs ys) (bytes_eq-Decides xs ys)
 
+-- rows of texts
 pub same_cells : (xs ys : List (List ℕ)) → Decided (xs ≡ ys)
 same_cells xs ys = by_test (pointwise bytes_eq xs ys) (slice_eq-Decides bytes_eq-Decides xs ys (pointwise bytes_eq xs ys) refl)
 

@@ -1,5 +1,5 @@
 -- A record has one price, or none.
-use Rattle.std.proofs.Common.{◌≡◌, ◌≢◌, ℕ, ◌+◌, ◌-◌, ◌*◌, ◌^◌, ◌<◌, ◌≤◌, codes, List, [], ◌∷◌, length, take, drop, position, Option, None, Some, refl, sym, ap, subst, ◌∙◌, arith}
+use Rattle.std.proofs.Common.{◌≡◌, ◌≢◌, ℕ, ◌+◌, ◌*◌, ◌^◌, ◌<◌, ◌≤◌, codes, List, [], ◌∷◌, length, take, drop, position, Option, None, Some, refl, sym, subst, ◌∙◌, arith}
 use Rattle.std.specs.Char.{digit_value}
 use Rattle.std.specs.Str.Parse.{AllDigits, IsNumeral}
 use Rattle.dispatch.specs.Table.{IsRectangular, row_at, cell_in, column_of}
@@ -8,6 +8,7 @@ use Rattle.dispatch.specs.Record.{IsRecord, price_column}
 use Rattle.dispatch.proofs.PriceTexts.{is_point, units_at, no_point, no_whole, no_fraction, too_dear, price_text}
 use Rattle.dispatch.proofs.Deciding.{Decided, holds, fails, Found, found, nothing, both, opposite, where_so, restated, is_below, at_most, same_number, same_text, each_below, each_item}
 
+-- a text is digits
 digits_decided : (ds : List ℕ) → Decided (AllDigits 10 ds)
 digits_decided [] = holds tt
 digits_decided (d ∷ ds) = both (is_below (digit_value d) 10) (digits_decided ds)
@@ -38,6 +39,7 @@ abbrev AreOthersEmpty : List (List ℕ) → ℕ → ℕ → Type 0
 AreOthersEmpty row label_at price_at =
     (column : ℕ) → column < length row → column ≢ label_at → column ≢ price_at → cell_in row column ≡ []
 
+-- they are empty or not
 others_decided : (row : List (List ℕ)) (label_at price_at : ℕ) → Decided (AreOthersEmpty row label_at price_at)
 others_decided row label_at price_at =
     each_below (λ column. column ≢ label_at → column ≢ price_at → cell_in row column ≡ [])
@@ -51,6 +53,7 @@ record HasRecord (rows : List (List (List ℕ))) (label : List ℕ) (label_at pr
   label_is : cell_in (row_at rows 1) label_at ≡ label
   others_empty : AreOthersEmpty (row_at rows 1) label_at price_at
 
+-- rows have it or not
 has_record : (rows : List (List (List ℕ))) (label : List ℕ) (label_at price_at : ℕ) → Decided (HasRecord rows label label_at price_at)
 has_record rows label label_at price_at = restated
     (λ h. record { rectangular = h.0; one_record = h.1.0; label_is = h.1.1.0; others_empty = h.1.1.1 })
@@ -58,10 +61,11 @@ has_record rows label label_at price_at = restated
     (both (each_item (λ row. length row ≡ length (row_at rows 0)) (λ row. same_number (length row) (length (row_at rows 0))) rows)
     (both (same_number (length rows) 2) (both (same_text (cell_in (row_at rows 1) label_at) label) (others_decided (row_at rows 1) label_at price_at))))
 
--- the columns of a record are these
+-- a column is at one place
 same_place : (o : Option ℕ) (a b : ℕ) → o ≡ Some a → o ≡ Some b → b ≡ a
 same_place o a b one other = let both : Some a ≡ Some b = sym one ∙ other in cc
 
+-- a column that is not there is none
 no_place : (o : Option ℕ) (a : ℕ) → o ≡ None → o ≡ Some a → ⊥
 no_place o a none some = let both : ◌≡◌ {A = Option ℕ} None (Some a) = sym none ∙ some in cc
 
@@ -77,10 +81,15 @@ price_found rows label = by_columns (column_of (codes "label") (row_at rows 0)) 
         let p : is.price_at ≡ price_at = same_place (column_of price_column (row_at rows 0)) price_at is.price_at at_price is.price_column_is in
         let L : ℕ → Type 0 = λ a. cell_in (row_at rows 1) a ≡ label in
         let E : ℕ → ℕ → Type 0 = λ a b. AreOthersEmpty (row_at rows 1) a b in
-        let P : ℕ → Type 0 = λ b. IsPriceText (cell_in (row_at rows 1) b) price in
-        (record { rectangular = is.rectangular; one_record = is.one_record; label_is = subst L l is.label_is;
-            others_empty = subst (E label_at) p (subst (λ (a : ℕ). E a is.price_at) l is.others_empty) },
-        subst P p is.price_is)
+        let P : ℕ → Type 0 = λ b. IsPriceText (cell_in (row_at rows 1) b) price in (
+          record {
+            rectangular = is.rectangular;
+            one_record = is.one_record;
+            label_is = subst L l is.label_is;
+            others_empty = subst (E label_at) p (subst (λ (a : ℕ). E a is.price_at) l is.others_empty);
+          },
+          subst P p is.price_is,
+        )
 
     by_record : (label_at price_at : ℕ) → column_of (codes "label") (row_at rows 0) ≡ Some label_at → column_of price_column (row_at rows 0) ≡ Some price_at
         → Decided (HasRecord rows label label_at price_at) → Found (IsPriceText (cell_in (row_at rows 1) price_at)) → Found (IsRecord rows label)

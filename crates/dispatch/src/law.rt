@@ -5,5 +5,4 @@ ghost use Rattle.dispatch.specs.Law.{HasOneAnswer};
 /// To every list of words and all files there is exactly one answer.
 pub fn answers_once()
     ensures { HasOneAnswer }
-{
-}
+{}
