@@ -17,6 +17,7 @@ use Rattle.dispatch.specs.declared.verdict.Verdict.TheVariants as verdict
 use Rattle.dispatch.specs.declared.fault.Refusal.{Refusal}
 use Rattle.dispatch.specs.declared.fault.Refusal.TheVariants.{Words, LongRecord, Record, LongReadings, Readings, LongBattery, Battery}
 
+-- a verdict, the text that is printed, and the files that are opened, in order
 pub record Answer : Type 0 where
   pub verdict : Verdict
   pub text : List ℕ
@@ -42,13 +43,15 @@ refusal_text Readings = line (codes "refused readings 23 NotYet")
 refusal_text LongBattery = line (codes "refused battery 0 TooLong")
 refusal_text Battery = line (codes "refused battery 23 NotYet")
 
--- the files that are opened for reading, in order: up to the record, up to the readings, and all three
+-- the files that are opened for reading: the record file alone
 abbrev pub opens_record : Asked → List Opening
 opens_record asked = opening In asked.records ∷ []
 
+-- up to the readings
 abbrev pub opens_readings : Asked → List Opening
 opens_readings asked = opening In asked.records ∷ opening In asked.readings ∷ []
 
+-- all three
 abbrev pub opens_all : Asked → List Opening
 opens_all asked = opening In asked.records ∷ opening In asked.readings ∷ opening In asked.battery ∷ []
 
@@ -56,13 +59,15 @@ opens_all asked = opening In asked.records ∷ opening In asked.readings ∷ ope
 abbrev pub refused : Refusal → List Opening → Answer
 refused refusal openings = record { verdict = refusal_verdict refusal; text = refusal_text refusal; openings = openings }
 
--- what each file means
+-- the record file has this price under the label
 abbrev pub MeansPrice : Files → Asked → ℕ → Type 0
 MeansPrice files asked price = IsRecord (rows_of (bytes_in files asked.records)) asked.label price
 
+-- the readings file is this month's
 abbrev pub MeansMonth : Files → Asked → ℤ → ℕ → List ℤ → Type 0
 MeansMonth files asked year number net = IsReadingsFile (rows_of (bytes_in files asked.readings)) year number net
 
+-- the battery file is this battery
 abbrev pub MeansBattery : Files → Asked → Storage → Type 0
 MeansBattery files asked storage = IsBatteryFile (rows_of (bytes_in files asked.battery)) storage
 

@@ -91,6 +91,7 @@ values_of setting (Has mode ∷ rest) = values_of setting rest
 abbrev pub value_of : Setting → List Entry → Option ℤ
 value_of setting entries = slice_get (values_of setting entries) 0
 
+-- the names in the header
 abbrev pub battery_header : List (List ℕ)
 battery_header = codes "kind" ∷ codes "name" ∷ codes "change" ∷ codes "grid_wh" ∷ codes "low" ∷ codes "high" ∷ []
 

@@ -4,6 +4,7 @@ use Rattle.std.specs.Prelude.{◌≡◌, ◌≢◌, ℕ, ◌<◌, List, [], leng
 use Rattle.dispatch.specs.Table.{IsRectangular, row_at, cell_in, column_of}
 use Rattle.dispatch.specs.Number.{IsPriceText}
 
+-- the column of the price: the rate of the first tier of the first period of energy
 abbrev pub price_column : List ℕ
 price_column = codes "energyratestructure/period0/tier0rate"
 

@@ -20,5 +20,6 @@ pub record ShowsLeast (inputs : Inputs) (label : List ℕ) (reply : Reply) : Typ
   pub verdict_is : reply.verdict ≡ verdict.Done
   pub text_is : reply.text.items ≡ plan_text inputs label schedule
 
+-- a plan says that there is no schedule, or shows the first least one
 abbrev pub IsReply : Inputs → List ℕ → Reply → Type 0
 IsReply inputs label reply = SaysNoSchedule inputs reply ⊎ ShowsLeast inputs label reply

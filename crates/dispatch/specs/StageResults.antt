@@ -56,6 +56,7 @@ pub record GivesPrice (files : Files) (asked : Asked) (price : ℤ) : Type 0 whe
   pub price_is : price ≡ pos units
   pub means : MeansPrice files asked units
 
+-- the record file is refused: it is too long, or has no price
 abbrev pub RefusesRecord : Files → Asked → Refusal → Type 0
 RefusesRecord files asked refusal = IsTooLong files asked.records (2 ^ 30) LongRecord refusal
     ⊎ HasNoMeaning files asked.records (2 ^ 30) Record refusal ((price : ℕ) → MeansPrice files asked price → ⊥)
@@ -66,6 +67,7 @@ pub record GivesMonth (files : Files) (asked : Asked) (meter : Meter) : Type 0 w
   pub minutes : meter.minutes ≡ 60
   pub means : MeansMonth files asked meter.month.year meter.month.number meter.net
 
+-- the readings file is refused: it is too long, or no month's
 abbrev pub RefusesReadings : Files → Asked → Refusal → Type 0
 RefusesReadings files asked refusal = IsTooLong files asked.readings (2 ^ 24) LongReadings refusal
     ⊎ HasNoMeaning files asked.readings (2 ^ 24) Readings refusal ((year : ℤ) (number : ℕ) (net : List ℤ) → MeansMonth files asked year number net → ⊥)
@@ -75,6 +77,7 @@ pub record GivesBattery (files : Files) (asked : Asked) (battery : Battery) : Ty
   pub within : length (bytes_in files asked.battery) ≤ 2 ^ 24
   pub means : MeansBattery files asked (storage_of battery)
 
+-- the battery file is refused: it is too long, or no battery
 abbrev pub RefusesBattery : Files → Asked → Refusal → Type 0
 RefusesBattery files asked refusal = IsTooLong files asked.battery (2 ^ 24) LongBattery refusal
     ⊎ HasNoMeaning files asked.battery (2 ^ 24) NoBattery refusal ((storage : Storage) → MeansBattery files asked storage → ⊥)
@@ -93,6 +96,7 @@ pub record StopsOpening (words : List (List ℕ)) (before now : Scene) : Type 0 
   pub printed : now.printed ≡ before.printed
   pub opened : (answer : Answer) → IsAnswer words before.files answer → GainsFront before.opened now.opened answer.openings
 
+-- what preparing an answer leaves: the answer prepared, or a stop
 abbrev pub Prepares : List (List ℕ) → Scene → Scene → Result Reply Fault → Type 0
 Prepares words before now (Ok reply) = IsPrepared words before now reply.verdict reply.text.items
 Prepares words before now (Err (fault.Refused refusal)) = IsPrepared words before now (refused refusal []).verdict (refused refusal []).text
@@ -106,6 +110,7 @@ pub record Gives (words : List (List ℕ)) (before now : Scene) (verdict : Verdi
   pub verdict_is : verdict ≡ answer.verdict
   pub answered : IsAnswered answer before now
 
+-- what replying leaves: the answer given, or a run cut short
 abbrev pub Replies : List (List ℕ) → Scene → Scene → Result Verdict DeskFault → Type 0
 Replies words before now (Ok verdict) = Gives words before now verdict
 Replies words before now (Err e) = IsCutShort words before now

@@ -33,6 +33,7 @@ month_text year number = zero_padded 4 (unsigned_abs year) ++ 45 ∷ zero_padded
 abbrev pub start_day : ℕ → ℕ → ℕ
 start_day minutes t = t * minutes / 1440 + 1
 
+-- the minute of that day, from 0
 abbrev pub start_minute : ℕ → ℕ → ℕ
 start_minute minutes t = t * minutes % 1440
 
