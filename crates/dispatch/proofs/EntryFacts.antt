@@ -19,7 +19,7 @@ pub fits_between : (least most z : ℤ) → FitsSigned w64 least → FitsSigned 
 fits_between least most z low high above below = omega (arith, ints)
 
 -- no number is written as an empty cell
-empty_none : (n : ℕ) → n < 2 ^ 64 → IsWholeText [] (pos n) → ⊥
+pub empty_none : (n : ℕ) → n < 2 ^ 64 → IsWholeText [] (pos n) → ⊥
 empty_none n small text = let some = decimal_nonempty n small in let none = ap (λ (t : List ℕ). length t) text in omega arith
 
 -- a cell gives one level

@@ -25,5 +25,13 @@ pub mod EntryFacts
 pub mod NoValues
 pub mod PlanTexts
 pub mod PlanLevels
+pub mod Deciding
+pub mod RequestFound
+pub mod PriceFound
+pub mod WholeFound
+pub mod MonthFound
+pub mod EntryFound
+pub mod BatteryFound
 pub mod DraftFacts
 pub mod EntryLists
+pub mod AnswerFound

@@ -30,7 +30,7 @@ digits_none ds text same bad plain numeral few =
     let short = digits_value_short own ds 18 numeral.1 few in
     subst (λ (t : List ℕ). AllDigits 10 t × (0 < length t) × (digits_value 10 t < 2 ^ 64) → ⊥) same refused (numeral.1, numeral.0, omega arith)
 
-abbrev is_point : ℕ → Bool
+abbrev pub is_point : ℕ → Bool
 is_point byte = byte == 46
 
 -- the first point stands behind the digits before it

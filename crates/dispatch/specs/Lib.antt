@@ -13,4 +13,5 @@ pub mod PlainFront
 pub mod PlanWays
 pub mod StageResults
 pub mod PlanLines
+pub mod Law
 pub mod Draft

@@ -6,6 +6,7 @@ mod battery;
 mod draft;
 mod entry;
 mod fault;
+mod law;
 mod least;
 mod number;
 mod plan;

@@ -1,0 +1,5 @@
+use Rattle.dispatch.proofs.AnswerFound.{one_answer}
+use Rattle.dispatch.proofs.law.answers_once.Goals as goal
+
+pub returns : goal.returns
+returns c = one_answer
