@@ -17,6 +17,19 @@ status_of verdict.Readings = status.Readings
 status_of verdict.Battery = status.Battery
 status_of verdict.NoSchedule = status.NoSchedule
 
+-- the exit status, numbered in order
+abbrev pub status_number : Status → ℕ
+status_number status.Done = 0
+status_number status.Words = 1
+status_number status.Record = 2
+status_number status.Readings = 3
+status_number status.Battery = 4
+status_number status.NoSchedule = 5
+status_number status.Gap = 6
+status_number status.Refused = 7
+status_number status.Desk = 8
+status_number status.Memory = 9
+
 -- the run was answered: its text is printed whole, its files were opened in their order, and the files are as before
 pub record IsAnswered (answer : Answer) (before now : Scene) : Type 0 where
   pub printed : now.printed ≡ before.printed ++ answer.text
