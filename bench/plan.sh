@@ -28,14 +28,15 @@ for run in "$short" "$long" "cp readings.csv copy.csv"; do
         hyperfine -N --warmup 3 --min-runs 20 "$run" 2>/dev/null | sed -n '2,3p'
     fi
     python3 - $run <<'PY'
-import os, resource, subprocess, sys, time
+import os, subprocess, sys, time
 best = None
 for _ in range(20):
     begin = time.perf_counter()
-    subprocess.run(sys.argv[1:], stdout=subprocess.DEVNULL, check=False)
+    done = subprocess.run(sys.argv[1:], stdout=subprocess.DEVNULL, check=False)
     took = time.perf_counter() - begin
     best = took if best is None else min(best, took)
-peak = resource.getrusage(resource.RUSAGE_CHILDREN).ru_maxrss
-print("  best of 20: %.4f s, peak memory %.1f MB, %d processors" % (best, peak / 1024, os.cpu_count()))
+print("  best of 20: %.4f s, status %d, %d processors" % (best, done.returncode, os.cpu_count()))
 PY
+    # measured from a small parent: a child's peak counts what it held before it became the program
+    if [ -x /usr/bin/time ]; then /usr/bin/time -f '  peak memory: %M KB' $run 2>&1 >/dev/null | tail -1; fi
 done
