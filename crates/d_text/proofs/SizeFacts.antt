@@ -3,7 +3,7 @@ use Rattle.std.proofs.Common.{◌≡◌, ℕ, zero, suc, ◌+◌, ◌-◌, ◌*�
 use Rattle.d_text.proofs.PhaseFacts.{read-done}
 use Rattle.std.proofs.lemmas.Nat.{mul-le, div-add-mod', pow-add}
 use Rattle.std.proofs.Math.Nat.{pow-zero, pow-suc, pow-le-pow_right}
-use Rattle.d_text.specs.Decimal.{Written, IsDecimalText, IsInLimit, IsUnits, size_over, size_under, signed}
+use Rattle.d_text.specs.Decimal.{Written, IsDecimalText, IsInLimit, IsUnits, size_over, size_under, signed, IsNearest}
 use Rattle.d_text.specs.declared.scan.Scan.{Scan}
 use Rattle.d_text.specs.Scan.{Keeps, IsShort, Holds, is_done}
 use Rattle.d_text.specs.Size.{IsSize, IsQuotient, Says}
@@ -267,3 +267,22 @@ no-units w places s units h e u =
 
     over_high : (o a b : ℕ) → a ≡ o → b ≤ a → o < b → ⊥
     over_high o a b e le lt = omega arith
+
+-- rounded down
+pub nearest-plain : (s : Size) (o u : ℕ) → 0 < u → IsSize s o u → IsNearest false s.floor o u
+nearest-plain s o u some h = by_exact s.exact refl
+  where
+    far : (other : ℕ) → s.floor < other → o < (s.floor + 1) * u → o < other * u
+    far other lt below = let le : (s.floor + 1) * u ≤ other * u = times-le (s.floor + 1) other u (omega arith) in omega arith
+
+    by_exact : (b : Bool) → s.exact ≡ b → IsNearest false s.floor o u
+    by_exact true e = let q : s.floor * u ≡ o = h.exact e in record { below = omega arith; greatest = λ other lt. far other lt (let more : s.floor * u < (s.floor + 1) * u = times-lt s.floor (s.floor + 1) u (omega arith) some in omega arith) }
+    by_exact false e = let q : s.floor * u < o = h.above e in record { below = omega arith; greatest = λ other lt. far other lt (h.below e) }
+
+pub nearest-exact : (s : Size) (o u : ℕ) → 0 < u → IsSize s o u → s.exact ≡ true → IsNearest true s.floor o u
+nearest-exact s o u some h e = let q : s.floor * u ≡ o = h.exact e in
+    record { above = omega arith; least = λ other lt. (let less : other * u < s.floor * u = times-lt other s.floor u lt some in omega arith) }
+
+pub nearest-over : (s : Size) (o u : ℕ) → IsSize s o u → s.exact ≡ false → IsNearest true (s.floor + 1) o u
+nearest-over s o u h e = let above : s.floor * u < o = h.above e in let below : o < (s.floor + 1) * u = h.below e in
+    record { above = omega arith; least = λ other lt. (let le : other * u ≤ s.floor * u = times-le other s.floor u (omega arith) in omega arith) }

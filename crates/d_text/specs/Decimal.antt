@@ -84,3 +84,22 @@ IsInLimit w places limit = size_over w places ≤ limit * 10 ^ places * size_und
 -- the value is exactly this number of units of 10^-places
 abbrev pub IsUnits : Written → ℕ → ℤ → Type 0
 IsUnits w places units = (size : ℕ) × (units ≡ signed w.minus size) × (size * size_under w ≡ size_over w places)
+
+-- the greatest whole number that isn't above over / under
+pub record IsGreatestBelow (size over under : ℕ) : Type 0 where
+  pub below : size * under ≤ over
+  pub greatest : (other : ℕ) → size < other → over < other * under
+
+-- the least whole number that isn't below over / under
+pub record IsLeastAbove (size over under : ℕ) : Type 0 where
+  pub above : over ≤ size * under
+  pub least : (other : ℕ) → other < size → other * under < over
+
+-- rounded down is the greatest size below, or with a minus the least size above
+abbrev pub IsNearest : Bool → ℕ → ℕ → ℕ → Type 0
+IsNearest true size over under = IsLeastAbove size over under
+IsNearest false size over under = IsGreatestBelow size over under
+
+-- the value rounded down is this number of units of 10^-places
+abbrev pub IsRoundedDown : Written → ℕ → ℤ → Type 0
+IsRoundedDown w places units = (size : ℕ) × (units ≡ signed w.minus size) × IsNearest w.minus size (size_over w places) (size_under w)

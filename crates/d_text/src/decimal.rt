@@ -1,8 +1,8 @@
 //! Decimals as they are read.
 
-ghost use Rattle.std.specs.Prelude.{◌≡◌, ◌^◌, ◌<◌, ◌≤◌, ℕ, true, length, IfOk, IfErr};
+ghost use Rattle.std.specs.Prelude.{◌≡◌, ◌*◌, ◌^◌, ◌<◌, ◌≤◌, ℕ, true, length, IfOk, IfErr};
 ghost use Rattle.d_text.specs.Scan.{Holds, IsShort, is_done};
-ghost use Rattle.d_text.specs.Fault.{IsTextFault, IsDecimalFault, IsDecimalOf};
+ghost use Rattle.d_text.specs.Fault.{IsTextFault, IsDecimalFault, IsDecimalOf, IsFloorFault, IsFloorOf};
 ghost use Rattle.d_text.specs.Decimal as spec;
 
 use crate::scan::Scan;
@@ -46,9 +46,27 @@ pub fn read_decimal(cell: &[u8], places: u8, limit: u64) -> Result<i128, Decimal
     }
 }
 
+/// The value of the decimal in the cell in units of 10^-places, rounded down, that is towards minus infinity. The form is that of
+/// `read_decimal`, and so are the refusals, but that a value between two units is never refused.
+pub fn read_floor(cell: &[u8], places: u8, limit: u64) -> Result<i128, DecimalFault>
+    requires places { places ≤ 18 }
+    requires limit { limit ≤ 10 ^ 10 }
+    ensures value { IfOk result (IsFloorOf cell.now places limit) }
+    ensures fault { IfErr result (IsFloorFault cell.now places limit) }
+{
+    let scan = match scan(cell) {
+        Ok(scan) => scan,
+        Err(fault) => return Err(fault),
+    };
+    match size_within(scan, places, limit) {
+        Some(size) => Ok(signed(scan.minus, size.rounded(scan.minus))),
+        None => Err(DecimalFault::TooLarge),
+    }
+}
+
 /// The number with its sign.
 fn signed(minus: bool, size: u128) -> i128
-    requires { size ≤ 10 ^ 28 }
+    requires { size ≤ 2 * 10 ^ 28 }
     ensures { result ≡ spec.signed minus size }
 {
     if minus { -(size as i128) } else { size as i128 }

@@ -9,7 +9,7 @@ mod scan;
 mod size;
 mod text;
 
-pub use decimal::{DecimalFault, read_decimal};
+pub use decimal::{DecimalFault, read_decimal, read_floor};
 pub use text::{money_text, rate_text, whole_text};
 
 #[cfg(test)]
@@ -49,6 +49,13 @@ mod tests {
                 "at {place}"
             );
         }
+    }
+
+    #[test]
+    fn rounds_down(rt: HostRuntime) {
+        assert!(rt; read_floor(b"-1.25", 1, 2) == Ok(-13));
+        assert!(rt; read_floor(b"1.29", 1, 2) == Ok(12));
+        assert!(rt; read_floor(b"2.01", 1, 2) == Err(DecimalFault::TooLarge));
     }
 
     #[test]

@@ -2,7 +2,7 @@
 
 ghost use Rattle.std.specs.Prelude.{◌≡◌, ℕ, ◌+◌, ◌*◌, ◌^◌, ◌<◌, ◌≤◌, ◌⊎◌, true, false, IfSome, IfNone, IsNone, if◌then◌else◌};
 ghost use Rattle.d_text.specs.Scan.{Keeps, IsShort};
-ghost use Rattle.d_text.specs.Decimal.{Written, IsInLimit, size_over, size_under};
+ghost use Rattle.d_text.specs.Decimal.{Written, IsInLimit, IsNearest, size_over, size_under};
 ghost use Rattle.d_text.specs.Size.{IsSize, IsQuotient, Says};
 
 use crate::scan::{Number, Scan};
@@ -67,6 +67,23 @@ impl Scan {
 }
 
 impl Size {
+    /// The whole units of the size, rounded up where a minus stands in front.
+    pub fn rounded(self, minus: bool) -> u128
+        requires { self.floor ≤ 10 ^ 28 }
+        ensures near { (over under : ℕ) → 0 < under → IsSize self over under → IsNearest minus result over under }
+        ensures most { result ≤ 2 * 10 ^ 28 }
+    {
+        if minus {
+            if self.exact {
+                self.floor
+            } else {
+                self.floor + 1
+            }
+        } else {
+            self.floor
+        }
+    }
+
     /// Whether the size is above so many units.
     fn is_above(self, most: u128) -> bool
         ensures yes { result ≡ true → (most < self.floor) ⊎ ((most ≤ self.floor) × (self.exact ≡ false)) }
