@@ -1,18 +1,18 @@
 -- What is read in each phase, and where a text leads.
-use Rattle.std.proofs.Common.{◌≡◌, ℕ, zero, suc, ◌+◌, ◌-◌, ◌*◌, ◌^◌, ◌≤◌, ◌<◌, ◌⊎◌, Bool, true, false, nat_lt, Option, None, Some, List, [], ◌∷◌, ◌++◌, length, arith, refl, sym, ap, ap₂, ◌∙◌, append_assoc, length-append, cond, inl, inr}
+use Rattle.std.proofs.Common.{◌≡◌, ℕ, ◌+◌, ◌*◌, ◌≤◌, ◌<◌, ◌⊎◌, Bool, true, Option, None, Some, List, [], ◌∷◌, ◌++◌, length, arith, refl, sym, ap, ap₂, ◌∙◌, inl, inr}
 use Rattle.std.proofs.lemmas.List.{append-nil}
 use Rattle.std.proofs.lemmas.Bool.Decides.{nat_tests}
 use Rattle.std.proofs.lemmas.Str.Parse.{digit_from_value}
 use Rattle.std.specs.Char.{digit_value}
 use Rattle.std.specs.Int.{IsInRange}
 use Rattle.std.specs.Str.Parse.{AllDigits}
-use Rattle.d_text.specs.Decimal.{Written, IsSign, IsMantissa, IsExponent, IsPower, IsDecimalText, BeginsDecimal}
-use Rattle.d_text.specs.Scan.{kind_of, after_digit, after_sign, after_point, after_mark, after_kind, is_done, IsRead, IsMarked}
+use Rattle.d_text.specs.Decimal.{Written, IsSign, IsMantissa, IsPower, IsDecimalText, BeginsDecimal}
+use Rattle.d_text.specs.Scan.{kind_of, after_digit, after_sign, after_point, after_mark, after_kind, is_done, IsRead}
 use Rattle.d_text.specs.declared.scan.Phase.{Phase}
 use Rattle.d_text.specs.declared.scan.Phase.TheVariants.{Start, Signed, Whole, LonePoint, Fraction, Marked, MarkSigned, Power}
 use Rattle.d_text.specs.declared.scan.Kind.{Kind}
-use Rattle.d_text.specs.declared.scan.Kind.TheVariants.{Digit, Sign, Point, Mark, Other}
-use Rattle.d_text.proofs.ReadFacts.{whole-first, whole-more, point-first, point-whole, pointed-more, mantissa-whole, mantissa-pointed, marked-first, marked-sign, marked-digit}
+use Rattle.d_text.specs.declared.scan.Kind.TheVariants.{Digit}
+use Rattle.d_text.proofs.ReadFacts.{whole-first, whole-more, point-first, pointed-more, mantissa-whole, mantissa-pointed, marked-first, marked-digit}
 
 pub read-whole : (phase : Phase) (text : List ℕ) (minus : Bool) (n b : ℕ) (down : Bool) (x d : ℕ) → d < 10 → after_digit phase ≡ Whole → IsRead phase text minus n b down x
     → IsRead Whole (text ++ (48 + d) ∷ []) minus (n * 10 + d) b down x

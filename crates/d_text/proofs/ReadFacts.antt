@@ -1,12 +1,12 @@
 -- A decimal with one more byte.
-use Rattle.std.proofs.Common.{◌≡◌, ℕ, zero, suc, ◌+◌, ◌-◌, ◌*◌, ◌^◌, ◌≤◌, ◌<◌, ◌⊎◌, min, Bool, true, false, nat_lt, List, [], ◌∷◌, ◌++◌, length, arith, refl, sym, ap, ap₂, ◌∙◌, append_assoc, length-append, cond}
+use Rattle.std.proofs.Common.{◌≡◌, ℕ, suc, ◌+◌, ◌*◌, ◌^◌, ◌≤◌, ◌<◌, ◌⊎◌, Bool, true, false, List, [], ◌∷◌, ◌++◌, length, arith, refl, sym, ap, ap₂, ◌∙◌, append_assoc, length-append, cond}
 use Rattle.std.proofs.lemmas.List.{append-nil}
 use Rattle.std.proofs.lemmas.Bool.Decides.{nat_tests}
 use Rattle.std.proofs.lemmas.Int.Digits.{digits_value_push, digits_push}
 use Rattle.std.proofs.Math.Nat.{pow-zero, pow-suc}
 use mathlib.Core.Logic.{inl, inr}
 use Rattle.std.specs.Char.{digit_value}
-use Rattle.std.specs.Str.Parse.{AllDigits, digits_value}
+use Rattle.std.specs.Str.Parse.{digits_value}
 use Rattle.d_text.specs.Decimal.{IsSign, IsMantissa}
 use Rattle.d_text.specs.Scan.{Keeps, IsWhole, IsPointed, IsMarked}
 

@@ -2,8 +2,8 @@
 use Rattle.std.proofs.Common.{◌≡◌, ℕ, zero, suc, ◌+◌, ◌-◌, ◌*◌, ◌/◌, ◌%◌, ◌^◌, ◌≤◌, ◌<◌, ◌⊎◌, min, Bool, true, false, arith, refl, sym, ap, ap₂, ◌∙◌, inl, inr, cond, List, ℤ}
 use Rattle.d_text.proofs.PhaseFacts.{read-done}
 use Rattle.std.proofs.lemmas.Nat.{mul-le, div-add-mod', pow-add}
-use Rattle.std.proofs.Math.Nat.{pow-zero, pow-suc, pow-le-pow_right}
-use Rattle.d_text.specs.Decimal.{Written, IsDecimalText, IsInLimit, IsUnits, size_over, size_under, signed, IsNearest}
+use Rattle.std.proofs.Math.Nat.{pow-zero, pow-suc}
+use Rattle.d_text.specs.Decimal.{Written, IsDecimalText, IsUnits, size_over, size_under, IsNearest}
 use Rattle.d_text.specs.declared.scan.Scan.{Scan}
 use Rattle.d_text.specs.Scan.{Keeps, IsShort, Holds, is_done}
 use Rattle.d_text.specs.Size.{IsSize, IsQuotient, Says}

@@ -1,6 +1,6 @@
 -- How far a decimal is read.
-use Rattle.std.specs.Prelude.{◌≡◌, ℕ, suc, ◌+◌, ◌*◌, ◌^◌, ◌<◌, ◌≤◌, ◌⊎◌, min, Bool, true, false, ◌||◌, ◌&&◌, ◌==◌, nat_lt, if◌then◌else◌, Option, None, Some, List, [], ◌∷◌, ◌++◌, length}
-use Rattle.std.specs.Str.Parse.{AllDigits, IsNumeral, digits_value}
+use Rattle.std.specs.Prelude.{◌≡◌, ℕ, ◌+◌, ◌*◌, ◌^◌, ◌<◌, ◌≤◌, ◌⊎◌, min, Bool, true, false, ◌||◌, ◌&&◌, ◌==◌, nat_lt, if◌then◌else◌, Option, None, Some, List, [], ◌∷◌, ◌++◌, length}
+use Rattle.std.specs.Str.Parse.{AllDigits, digits_value}
 use Rattle.d_text.specs.Decimal.{IsSign, IsMantissa}
 use Rattle.d_text.specs.declared.scan.Phase.{Phase}
 use Rattle.d_text.specs.declared.scan.Phase.TheVariants.{Start, Signed, Whole, LonePoint, Fraction, Marked, MarkSigned, Power}

@@ -1,5 +1,5 @@
 -- Sizes in whole units.
-use Rattle.std.specs.Prelude.{◌≡◌, ℕ, ◌+◌, ◌*◌, ◌/◌, ◌%◌, ◌^◌, ◌<◌, ◌≤◌, ◌⊎◌, min, Bool, true, false}
+use Rattle.std.specs.Prelude.{◌≡◌, ℕ, ◌+◌, ◌*◌, ◌/◌, ◌%◌, ◌^◌, ◌<◌, ◌⊎◌, min, Bool, true, false}
 use Rattle.d_text.specs.Decimal.{Written}
 use Rattle.d_text.specs.Scan.{Keeps}
 use Rattle.d_text.specs.declared.scan.Scan.{Scan}

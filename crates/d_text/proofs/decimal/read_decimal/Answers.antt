@@ -1,9 +1,8 @@
-use Rattle.std.proofs.Common.{◌≡◌, ℕ, rules, arith, sym, ◌∙◌, FitsSigned, to_z, of_z}
+use Rattle.std.proofs.Common.{rules, ◌∙◌, FitsSigned}
 use Rattle.std.specs.Int.{w128}
 use Rattle.std.proofs.lemmas.Int.{to_z-of_z}
-use Rattle.d_text.specs.Decimal.{Written, IsDecimalText, IsInLimit, IsUnits}
+use Rattle.d_text.specs.Decimal.{Written}
 use Rattle.d_text.specs.Size.{Says}
-use Rattle.d_text.specs.Scan.{Holds}
 use Rattle.d_text.proofs.SizeFacts.{says, is-said, no-units}
 use Rattle.d_text.proofs.decimal.read_decimal.Goals as goal
 use Rattle.d_text.proofs.decimal.read_decimal.Goals.{In-Ok}

@@ -1,4 +1,4 @@
-use Rattle.std.proofs.Common.{◌≡◌, ℕ, rules, arith, sym, ◌∙◌, FitsSigned, to_z, of_z}
+use Rattle.std.proofs.Common.{rules, ◌∙◌, FitsSigned}
 use Rattle.std.specs.Int.{w128}
 use Rattle.std.proofs.lemmas.Int.{to_z-of_z}
 use Rattle.d_text.specs.Decimal.{Written, size_over, size_under}

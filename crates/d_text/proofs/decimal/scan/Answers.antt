@@ -1,6 +1,5 @@
-use Rattle.std.proofs.Common.{◌≡◌, ◌+◌, ◌<◌, ℕ, List, length, take, arith, rules, sym, ap, ◌∙◌}
+use Rattle.std.proofs.Common.{◌≡◌, ◌<◌, ℕ, List, length, take, arith, rules, sym, ap, ◌∙◌}
 use Rattle.std.proofs.lemmas.List.{take_all, take_more}
-use Rattle.d_text.specs.Scan.{Holds}
 use Rattle.d_text.specs.declared.scan.Phase.TheVariants.{Start}
 use Rattle.d_text.proofs.PhaseFacts.{run}
 use Rattle.d_text.proofs.FaultFacts.{run-more, stuck-fault, end-fault}

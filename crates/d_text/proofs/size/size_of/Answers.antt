@@ -1,7 +1,5 @@
-use Rattle.std.proofs.Common.{◌≡◌, ◌≤◌, ◌<◌, ◌+◌, ◌-◌, ◌*◌, ◌^◌, ◌⊎◌, ℕ, Option, None, Some, IfNone, arith, rules, refl, sym, ap, ◌∙◌, inl, inr}
+use Rattle.std.proofs.Common.{◌≡◌, ◌<◌, ◌+◌, ◌-◌, ◌^◌, Option, None, Some, IfNone, arith, inl, inr}
 use Rattle.std.proofs.lemmas.Option.{IfSome_then}
-use Rattle.d_text.specs.Scan.{Keeps}
-use Rattle.d_text.specs.Size.{IsSize}
 use Rattle.d_text.specs.declared.size.Size.{Size}
 use Rattle.d_text.proofs.SizeFacts.{power-le, positive, order, larger-size, above-all, smaller-size, far-size, power-three}
 use Rattle.d_text.proofs.size.size_of.Goals as goal

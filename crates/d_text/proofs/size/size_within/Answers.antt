@@ -1,4 +1,4 @@
-use Rattle.std.proofs.Common.{◌≡◌, ◌≤◌, ◌<◌, ◌+◌, ◌*◌, ◌^◌, ◌⊎◌, ℕ, true, false, cond, arith, rules, refl, sym, ap, ◌∙◌, inl, inr}
+use Rattle.std.proofs.Common.{◌≤◌, ◌*◌, ◌^◌, arith, rules, inl, inr}
 use Rattle.std.proofs.lemmas.Nat.{mul-le}
 use Rattle.d_text.specs.Decimal.{Written, size_over, size_under}
 use Rattle.d_text.specs.Size.{IsSize, Says}

@@ -1,4 +1,4 @@
-use Rattle.std.proofs.Common.{◌≤◌, ◌<◌, ◌≡◌, ◌^◌, arith, rules}
+use Rattle.std.proofs.Common.{◌≤◌, ◌<◌, ◌^◌, arith, rules}
 use Rattle.d_text.proofs.SizeFacts.{power-le, positive}
 use Rattle.d_text.proofs.size.smaller.Goals as goal
 

@@ -1,4 +1,4 @@
-use Rattle.std.proofs.Common.{◌≡◌, ◌<◌, ◌^◌, ◌⊎◌, ◌∙◌, sym, Bool, true, false, ℕ, arith, refl, inl, inr, nat_eq}
+use Rattle.std.proofs.Common.{◌≡◌, ◌∙◌, sym, true, false, arith, inl, inr}
 use Rattle.std.proofs.lemmas.Bool.Decides.{nat_tests}
 use Rattle.d_text.proofs.ReadFacts.{keeps-long}
 use Rattle.d_text.proofs.scan.Number.push.Goals as goal

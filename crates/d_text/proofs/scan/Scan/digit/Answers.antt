@@ -1,4 +1,4 @@
-use Rattle.std.proofs.Common.{◌≡◌, ◌+◌, ◌*◌, ◌^◌, ◌∙◌, ℕ, min, arith, rules, sym}
+use Rattle.std.proofs.Common.{◌≡◌, ◌+◌, ◌*◌, ◌^◌, ◌∙◌, ℕ, min, arith, rules}
 use Rattle.d_text.specs.Scan.{after_digit}
 use Rattle.d_text.specs.declared.scan.Phase.TheVariants.{Whole, Fraction, Power}
 use Rattle.d_text.proofs.PhaseFacts.{read-whole, read-fraction, read-power}

@@ -1,4 +1,4 @@
-use Rattle.std.proofs.Common.{◌≡◌, Option, Some, rules, sym}
+use Rattle.std.proofs.Common.{◌≡◌, Some, rules}
 use Rattle.d_text.specs.Scan.{after_mark}
 use Rattle.d_text.specs.declared.scan.Phase.TheVariants.{Marked}
 use Rattle.d_text.proofs.PhaseFacts.{read-mark}

@@ -1,4 +1,4 @@
-use Rattle.std.proofs.Common.{◌≡◌, rules, sym}
+use Rattle.std.proofs.Common.{◌≡◌, rules}
 use Rattle.d_text.specs.Scan.{IsRead}
 use Rattle.d_text.specs.declared.scan.Phase.TheVariants.{Marked}
 use Rattle.d_text.proofs.ReadFacts.{marked-sign}
