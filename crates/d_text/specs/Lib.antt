@@ -1,0 +1,5 @@
+pub mod Text
+pub mod Decimal
+pub mod Scan
+pub mod Fault
+pub mod Size
