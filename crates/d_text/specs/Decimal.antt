@@ -70,6 +70,7 @@ pub record IsFormFault (cell : List ℕ) (place : ℕ) : Type 0 where
 abbrev pub size_over : Written → ℕ → ℕ
 size_over w places = if w.down then w.digits * 10 ^ places else w.digits * 10 ^ (w.power + places)
 
+-- what `size_over` is divided by
 abbrev pub size_under : Written → ℕ
 size_under w = if w.down then 10 ^ (w.behind + w.power) else 10 ^ w.behind
 
