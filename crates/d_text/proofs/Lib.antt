@@ -5,3 +5,4 @@ pub mod ReadFacts
 pub mod PhaseFacts
 pub mod FaultFacts
 pub mod SizeFacts
+pub mod OneReading

@@ -3,3 +3,4 @@ pub mod Decimal
 pub mod Scan
 pub mod Fault
 pub mod Size
+pub mod Law
