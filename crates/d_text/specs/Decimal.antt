@@ -15,7 +15,7 @@ pub record Written : Type 0 where
 abbrev pub IsSign : List ℕ → Bool → Type 0
 IsSign sign minus = ((sign ≡ []) × (minus ≡ false)) ⊎ (((sign ≡ 43 ∷ []) × (minus ≡ false)) ⊎ ((sign ≡ 45 ∷ []) × (minus ≡ true)))
 
--- a sign or none, and digits with at most one point among, before or after them, at least one digit in all
+-- a sign or none, and one or more digits, which a point may lead, part or end
 pub record IsMantissa (text : List ℕ) (minus : Bool) (digits behind : ℕ) : Type 0 where
   pub sign : List ℕ
   pub before : List ℕ
@@ -57,7 +57,7 @@ pub record IsDecimalText (text : List ℕ) (w : Written) : Type 0 where
 abbrev pub BeginsDecimal : List ℕ → Type 0
 BeginsDecimal text = (rest : List ℕ) × (w : Written) × IsDecimalText (text ++ rest) w
 
--- the cell isn't empty and no decimal, and the place is the length of its longest part at the front that some decimal begins with
+-- the cell isn't empty and no decimal; so many of its bytes, and no more, are the beginning of some decimal
 pub record IsFormFault (cell : List ℕ) (place : ℕ) : Type 0 where
   pub some : 0 < length cell
   pub other : (w : Written) → IsDecimalText cell w → ⊥

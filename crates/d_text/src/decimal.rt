@@ -13,7 +13,7 @@ use crate::size::size_within;
 pub enum DecimalFault {
     /// The cell is empty.
     Empty,
-    /// The cell is no decimal; the number is the length of its longest part at the front that some decimal begins with.
+    /// The cell is no decimal; so many of its bytes are still the beginning of one, and no more.
     Form(usize),
     /// The decimal's size is above the limit.
     TooLarge,
@@ -21,9 +21,10 @@ pub enum DecimalFault {
     TooFine,
 }
 
-/// The exact value of the decimal in the cell, in units of 10^-places. The cell is taken without blanks at its ends. A decimal is an
-/// optional sign, digits with at most one point among, before or after them, and optionally an e or E, an optional sign and digits.
-/// Refused, in this order, where the cell is empty, is no decimal, is above the limit in size, or isn't a whole number of units.
+/// The exact value of the decimal in the cell, in units of 10^-places. The caller has cut blanks off the cell's ends. A decimal has a
+/// plus, a minus or no sign, then one or more digits, which a point may lead, part or end, and then a power of ten or none: an e or
+/// E, again a sign or none, and digits. Refused, in this order: an empty cell, another text, a size above the limit, and a value
+/// between two units. The form is our own rule.
 pub fn read_decimal(cell: &[u8], places: u8, limit: u64) -> Result<i128, DecimalFault>
     requires places { places ≤ 18 }
     requires limit { limit ≤ 10 ^ 10 }
