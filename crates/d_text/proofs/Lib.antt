@@ -6,3 +6,14 @@ pub mod PhaseFacts
 pub mod FaultFacts
 pub mod SizeFacts
 pub mod OneReading
+pub mod TextDecided
+pub mod DecimalLaws
+pub mod FaultLaws
+pub mod ScanFacts
+pub mod ReaderFacts
+pub mod LevelReads
+pub mod LevelSays
+pub mod LevelFacts
+pub mod PartFacts
+pub mod GridFacts
+pub mod GridLaws

@@ -1,7 +1,30 @@
--- What holds of all decimals.
-use Rattle.std.specs.Prelude.{◌≡◌, ℕ, List}
+-- What holds of all decimals, grids and lists.
+use Rattle.std.specs.Prelude.{◌≡◌, ◌⊎◌, ℕ, ℤ, List}
 use Rattle.d_text.specs.Decimal.{Written, IsDecimalText}
+use Rattle.d_text.specs.Fault.{IsDecimalOf}
+use Rattle.d_text.specs.Grid.{IsGridOf, IsListOf}
+use Rattle.d_text.specs.declared.items.Span.{Span}
 
 -- a text says at most one thing as a decimal
 abbrev pub HasOneReading : Type 0
 HasOneReading = (text : List ℕ) (w v : Written) → IsDecimalText text w → IsDecimalText text v → w ≡ v
+
+-- the cell has exactly one value in units of 10^-places
+abbrev pub HasOneValue : List ℕ → ℕ → ℕ → Type 0
+HasOneValue cell places limit = (units : ℤ) × IsDecimalOf cell places limit units × ((other : ℤ) → IsDecimalOf cell places limit other → other ≡ units)
+
+-- the cell has no value in units of 10^-places
+abbrev pub HasNoValue : List ℕ → ℕ → ℕ → Type 0
+HasNoValue cell places limit = (units : ℤ) → IsDecimalOf cell places limit units → ⊥
+
+-- each cell has exactly one value or none, whatever the places and the limit
+abbrev pub HasValueOrNone : Type 0
+HasValueOrNone = (cell : List ℕ) (places limit : ℕ) → HasOneValue cell places limit ⊎ HasNoValue cell places limit
+
+-- a cell is at most one grid
+abbrev pub HasOneGrid : Type 0
+HasOneGrid = (cell : List ℕ) (rows others : List (List ℕ)) → IsGridOf cell rows → IsGridOf cell others → rows ≡ others
+
+-- a cell is at most one list of items
+abbrev pub HasOneList : Type 0
+HasOneList = (cell : List ℕ) (spans others : List Span) → IsListOf cell spans → IsListOf cell others → spans ≡ others

@@ -4,3 +4,5 @@ pub mod Scan
 pub mod Fault
 pub mod Size
 pub mod Law
+pub mod Grid
+pub mod Brackets

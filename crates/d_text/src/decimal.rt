@@ -4,6 +4,7 @@ ghost use Rattle.std.specs.Prelude.{◌≡◌, ◌*◌, ◌^◌, ◌<◌, ◌≤
 ghost use Rattle.d_text.specs.Scan.{Holds, IsShort, is_done};
 ghost use Rattle.d_text.specs.Fault.{IsTextFault, IsDecimalFault, IsDecimalOf, IsFloorFault, IsFloorOf};
 ghost use Rattle.d_text.specs.Decimal as spec;
+ghost use Rattle.d_num.specs.Amount.{IsWithin};
 
 use crate::scan::Scan;
 use crate::size::size_within;
@@ -29,6 +30,7 @@ pub fn read_decimal(cell: &[u8], places: u8, limit: u64) -> Result<i128, Decimal
     requires places { places ≤ 18 }
     requires limit { limit ≤ 10 ^ 10 }
     ensures value { IfOk result (IsDecimalOf cell.now places limit) }
+    ensures range { IfOk result (IsWithin (limit * 10 ^ places)) }
     ensures fault { IfErr result (IsDecimalFault cell.now places limit) }
 {
     let scan = match scan(cell) {
@@ -53,6 +55,7 @@ pub fn read_floor(cell: &[u8], places: u8, limit: u64) -> Result<i128, DecimalFa
     requires places { places ≤ 18 }
     requires limit { limit ≤ 10 ^ 10 }
     ensures value { IfOk result (IsFloorOf cell.now places limit) }
+    ensures range { IfOk result (IsWithin (limit * 10 ^ places)) }
     ensures fault { IfErr result (IsFloorFault cell.now places limit) }
 {
     let scan = match scan(cell) {

@@ -1,12 +1,15 @@
-//! Decimals of every form, and the texts of numbers.
+//! Decimals of every form, grids and lists in brackets, and the texts of numbers.
 
 use super::*;
 use d_num::{Money, Rate};
+use std::alloc::{AllocError, Global};
 
 /// Readings of cells with 18 places and the limit 1000.
 #[test]
 fn reads_each_decimal(rt: HostRuntime) {
     reads_one_way();
+    reads_or_not();
+    splits_one_way();
     let cases: [(&[u8], Result<i128, DecimalFault>); 79] = [
         (b"0", Ok(0)),
         (b"-0", Ok(0)),
@@ -135,4 +138,94 @@ fn writes_each_text_at_the_front(rt: HostRuntime) {
     assert_eq!(rt; &room[..end], b"-12.3405".as_slice());
     let end = rate_text(rate, &mut room);
     assert_eq!(rt; &room[..end], b"0.000000000000000001".as_slice());
+}
+
+// A row of zeros.
+const ROW: &[u8] = b"[0,0,0,0,0,0,0,0,0,0,0,0,0,0,0,0,0,0,0,0,0,0,0,0]";
+
+// The cell in which each R stands for a row of zeros.
+fn with_rows(alloc: Global, pattern: &str) -> Result<Vec<u8>, AllocError> {
+    let mut cell = Vec::new(alloc);
+    for byte in pattern.as_bytes() {
+        if *byte == b'R' {
+            cell.extend_from_slice(ROW)?;
+        } else {
+            cell.push(*byte)?;
+        }
+    }
+    Ok(cell)
+}
+
+// The place that a table's case says, or None where it is ok.
+fn place_of(answer: &str) -> Option<usize> {
+    answer.parse::<usize>().ok()
+}
+
+#[test]
+fn reads_each_grid(rt: HostRuntime) -> Result<(), AllocError> {
+    let cases =
+        "ok=[R,R,R,R,R,R,R,R,R,R,R,R]|ok=[\r\nR,R,R,R,R,R,R,R,R,R,R,R\n]|0=|0= |0= [|0=\u{feff}[|0=]|0=x|1=[|1=[]|1=[1|1=[,|\
+         1=[\u{b}|5=[ \t\r\n|2=[[|2=[[[|2=[[]|2=[[,|2=[[x|2=[[-1|4=[[35|3=[[36|5=[[0036|6=[[0035|4=[[350|3=[[4|3=[[40|4=[[1 2|\
+         3=[[1.0|4=[[1,,|3=[[1[|8=[[1 ,\n2\t]|11=[ \t[ \r1 \n, x|47=[[0,0,0,0,0,0,0,0,0,0,0,0,0,0,0,0,0,0,0,0,0,0,0]|\
+         49=[[0,0,0,0,0,0,0,0,0,0,0,0,0,0,0,0,0,0,0,0,0,0,0,0,|48=[[0,0,0,0,0,0,0,0,0,0,0,0,0,0,0,0,0,0,0,0,0,0,0,]|50=[R|50=[R0|\
+         50=[R[|52=[R \n]|550=[R,R,R,R,R,R,R,R,R,R,R]|600=[R,R,R,R,R,R,R,R,R,R,R,R,R]|600=[R,R,R,R,R,R,R,R,R,R,R,R|\
+         600=[R,R,R,R,R,R,R,R,R,R,R,R,]|601=[R,R,R,R,R,R,R,R,R,R,R,R]x|601=[R,R,R,R,R,R,R,R,R,R,R,R]]|\
+         601=[R,R,R,R,R,R,R,R,R,R,R,R] |0= [R,R,R,R,R,R,R,R,R,R,R,R]|1=R,R,R,R,R,R,R,R,R,R,R,R";
+    for case in cases.split('|') {
+        let (answer, pattern) = case.split_once('=').expect(&rt, "an answer and a cell");
+        let cell = with_rows(rt.alloc(), pattern)?;
+        let mut grid = [[7; 24]; 12];
+        let place = read_grid(&cell, &mut grid).err().map(|fault| fault.place);
+        assert_eq!(rt; place, place_of(answer), "at {case}");
+    }
+    Ok(())
+}
+
+#[test]
+fn keeps_the_order_of_a_grid(rt: HostRuntime) -> Result<(), AllocError> {
+    let pattern =
+        "[\r\n[ 000,07\t,\n014, 21,28,35,6,13,20,27,34,5,12,19,26,33,4,11,18,25,32,3,10,17]\t,\
+         R,R,R,R,R,R,R,R,R,R ,\
+         [35,35,35,35,35,35,35,35,35,35,35,35,35,35,35,35,35,35,35,35,35,35,35,0034 ] ]";
+    let cell = with_rows(rt.alloc(), pattern)?;
+    let mut grid = [[7; 24]; 12];
+    assert_eq!(rt; read_grid(&cell, &mut grid), Ok(()));
+    assert_eq!(rt;
+        grid[0],
+        [
+            0, 7, 14, 21, 28, 35, 6, 13, 20, 27, 34, 5, 12, 19, 26, 33, 4, 11, 18, 25, 32, 3, 10,
+            17
+        ]
+    );
+    assert_eq!(rt; grid[1], [0; 24]);
+    assert_eq!(rt; grid[11][22], 35);
+    assert_eq!(rt; grid[11][23], 34);
+    Ok(())
+}
+
+#[test]
+fn splits_each_list(rt: HostRuntime) {
+    let cases =
+        "ok=[a,a,a,a,a,a,a,a,a,a,a,a]|0=|0=\t[a|0=a|1=[|1=[]|1=[,|1=[[|2=[ |2=[a|2=[a]|2=[a[|3=[a b|3=[a,]|3=[a,,|\
+         11=[a \t\r\n,\n b ]|22=[a,a,a,a,a,a,a,a,a,a,a]|24=[a,a,a,a,a,a,a,a,a,a,a,a,a]|24=[a,a,a,a,a,a,a,a,a,a,a,a|\
+         24=[a,a,a,a,a,a,a,a,a,a,a,a,|25=[a,a,a,a,a,a,a,a,a,a,a,a]]|25=[a,a,a,a,a,a,a,a,a,a,a,a] ";
+    let mut spans = [Span { from: 0, to: 0 }; 12];
+    for case in cases.split('|') {
+        let (answer, cell) = case.split_once('=').expect(&rt, "an answer and a cell");
+        let place = split_list(cell.as_bytes(), &mut spans)
+            .err()
+            .map(|fault| fault.place);
+        assert_eq!(rt; place, place_of(answer), "at {case}");
+    }
+    assert_eq!(rt;
+        split_list(
+            b"[ 0.1 ,\n\"Jan\",x,-,a:b,{},(c),\xc3\xa9,9,10,eleven,12\t]",
+            &mut spans
+        ),
+        Ok(())
+    );
+    assert_eq!(rt; spans[0], Span { from: 2, to: 5 });
+    assert_eq!(rt; spans[1], Span { from: 8, to: 13 });
+    assert_eq!(rt; spans[7], Span { from: 29, to: 31 });
+    assert_eq!(rt; spans[11], Span { from: 44, to: 46 });
 }

@@ -4,6 +4,7 @@ use Rattle.std.proofs.lemmas.Int.{to_z-of_z}
 use Rattle.d_text.specs.Decimal.{Written}
 use Rattle.d_text.specs.Size.{Says}
 use Rattle.d_text.proofs.SizeFacts.{says, is-said, no-units}
+use Rattle.d_text.proofs.DecimalLaws.{decimal_within}
 use Rattle.d_text.proofs.decimal.read_decimal.Goals as goal
 use Rattle.d_text.proofs.decimal.read_decimal.Goals.{In-Ok}
 
@@ -20,6 +21,9 @@ returns-then-size-clause-value c =
       within = c.in-Some.ensures.limit _ s;
       value = (c.in-Some.size.floor, to_z-of_z w128 c.signed.result fits ∙ c.signed.ensures, (c.in-Some.ensures.size _ s).exact c.if-size.true);
     }
+
+pub returns-then-size-clause-range : goal.returns-then-size-clause-range
+returns-then-size-clause-range c = decimal_within c.args.cell.now c.args.places c.args.limit _ (returns-then-size-clause-value c)
 
 pub returns-else-size-clause-fault : goal.returns-else-size-clause-fault
 returns-else-size-clause-fault c =

@@ -4,6 +4,7 @@ use Rattle.std.proofs.lemmas.Int.{to_z-of_z}
 use Rattle.d_text.specs.Decimal.{Written, size_over, size_under}
 use Rattle.d_text.specs.Size.{Says}
 use Rattle.d_text.proofs.SizeFacts.{says, is-said, under-positive}
+use Rattle.d_text.proofs.DecimalLaws.{floor_within}
 use Rattle.d_text.proofs.decimal.read_floor.Goals as goal
 use Rattle.d_text.proofs.decimal.read_floor.Goals.{In-Ok}
 
@@ -21,6 +22,9 @@ returns-in-Some-clause-value c =
       within = c.in-Some.ensures.limit w s;
       value = (c.rounded.result, to_z-of_z w128 c.signed.result fits ∙ c.signed.ensures, c.rounded.ensures.near (size_over w c.args.places) (size_under w) (under-positive w) (c.in-Some.ensures.size w s));
     }
+
+pub returns-in-Some-clause-range : goal.returns-in-Some-clause-range
+returns-in-Some-clause-range c = floor_within c.args.cell.now c.args.places c.args.limit _ (returns-in-Some-clause-value c)
 
 pub returns-in-None-clause-fault : goal.returns-in-None-clause-fault
 returns-in-None-clause-fault c =
