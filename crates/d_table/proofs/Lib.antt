@@ -1,0 +1,6 @@
+pub mod Marks
+pub mod NameFacts
+pub mod CellFacts
+pub mod ReadingFacts
+pub mod RowFacts
+pub mod ColumnFacts

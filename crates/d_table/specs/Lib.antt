@@ -1,0 +1,5 @@
+pub mod Table
+pub mod Fault
+pub mod Cells
+pub mod Choice
+pub mod Reading
