@@ -2,4 +2,13 @@ pub mod FlowFacts
 pub mod RangeFacts
 pub mod RuleFacts
 pub mod WalkFacts
+pub mod MeteredFacts
 pub mod Laws
+pub mod Moments
+pub mod Digits
+pub mod StartParts
+pub mod ModeNames
+pub mod ScheduleRows
+pub mod Deciding
+pub mod ScheduleLaws
+pub mod ScheduleFound

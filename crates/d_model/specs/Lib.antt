@@ -8,3 +8,6 @@ pub mod Schedules
 pub mod Totals
 pub mod Bills
 pub mod Shown
+pub mod Starts
+pub mod ScheduleFile
+pub mod Law

@@ -1,8 +1,8 @@
 -- What is counted of a schedule before it is priced.
-use Rattle.std.specs.Prelude.{◌≡◌, ℕ, ℤ, pos, List, ◌∷◌, length, replicate, slice_get, slice_index, option_map, unwrap_or}
+use Rattle.std.specs.Prelude.{◌≡◌, ◌⊎◌, ℕ, ℤ, pos, List, ◌∷◌, length, replicate, slice_get, slice_index, option_map, unwrap_or}
 use Rattle.d_model.specs.Inputs.{Inputs}
 use Rattle.d_model.specs.Sums.{sum_of_first}
-use Rattle.d_model.specs.Flows.{import_of, flow_of}
+use Rattle.d_model.specs.Flows.{import_of, net_at, flow_of}
 use Rattle.d_model.specs.Schedules.{IsFeasible}
 
 -- the import of each of 36 energy periods, the worth of the export, and the greatest power of each of 37 groups of intervals
@@ -28,3 +28,15 @@ pub record IsTallyOfSome (i : Inputs) (tally : Tallied) : Type 0 where
   pub schedule : List ℕ
   pub feasible : IsFeasible i schedule
   pub counted : tally ≡ tally_of i schedule
+
+-- what the readings alone take from the grid, where no battery adds to them: the sum of the imports of the month's intervals
+abbrev pub metered_import : Inputs → ℤ
+metered_import i = sum_of_first (length i.net) (λ t. import_of (net_at i t))
+
+-- what is counted of the readings alone; no rule of the battery is tested
+abbrev pub metered_tally : Inputs → Tallied
+metered_tally i = record { totals = metered_import i ∷ replicate 35 (pos 0); credit = pos 0; peaks = replicate 37 (pos 0) }
+
+-- it is the tally of some feasible schedule, or of the readings alone
+abbrev pub IsCounted : Inputs → Tallied → Type 0
+IsCounted i tally = IsTallyOfSome i tally ⊎ (tally ≡ metered_tally i)

@@ -29,8 +29,8 @@ impl Problem {
     ghost use Rattle.d_model.specs.Inputs.{IsInRange};
     ghost use Rattle.d_model.specs.Flows.{net_at, arc_of, permitted_arc};
     ghost use Rattle.d_model.specs.Schedules.{change_of, KeepsRules, IsFeasible, IsFirstBreak};
-    ghost use Rattle.d_model.specs.Totals.{import_with, tally_of, IsTallyOfSome};
-    ghost use Rattle.d_model.specs.Bills.{sum_of, bill_of};
+    ghost use Rattle.d_model.specs.Totals.{import_with, tally_of, metered_tally, IsCounted};
+    ghost use Rattle.d_model.specs.Bills.{sum_of, bill_of, metered_bill};
     ghost use Rattle.d_model.specs.Shown.{storage_of, plain_of, inputs_of};
 
     /// The problem of these readings and this battery where all energy has this one price, with no sell rate, fixed charge or minimum.
@@ -142,7 +142,7 @@ impl Problem {
         requires { length schedule.now ≡ length (inputs_of self.now).net }
         ensures feasible { OnOk result (IsFeasible (inputs_of self.now) schedule.now) }
         ensures tally { OnOk result (tally.new ≡ tally_of (inputs_of self.now) schedule.now) }
-        ensures counted { OnOk result (IsTallyOfSome (inputs_of self.now) tally.new) }
+        ensures counted { OnOk result (IsCounted (inputs_of self.now) tally.new) }
         ensures refused { IfErr result
             (λ at. IsFirstBreak (inputs_of self.now) schedule.now at.interval) }
         ensures infeasible { OnErr result (¬ IsFeasible (inputs_of self.now) schedule.now) }
@@ -205,20 +205,35 @@ impl Problem {
         Some(after as u8)
     }
 
-    /// What is charged for a schedule of this tally.
+    /// Writes the tally of the readings alone, as if there were no battery: the sum of what each interval takes, in Wh. No rule of the
+    /// battery is tested, and no memory is taken.
+    pub fn metered(&self, tally: &mut Tally)
+        ensures value { tally.new ≡ metered_tally (inputs_of self.now) }
+        ensures counted { IsCounted (inputs_of self.now) tally.new }
+    {
+        let mut total = 0;
+        for t in 0..self.intervals() {
+            total += taken(self.net(t).value()).value();
+        }
+        *tally = Tally::of_import(Wh::new(total).unwrap());
+    }
+
+    /// What is charged for a tally that `walk` or `metered` of this problem wrote.
     pub fn sum(&self, tally: &Tally) -> Money
-        requires { IsTallyOfSome (inputs_of self.now) tally.now }
+        requires { IsCounted (inputs_of self.now) tally.now }
         ensures { result ≡ sum_of (inputs_of self.now) tally.now }
     {
         self.price.times(tally.totals[0].value())
     }
 
-    /// The bill of a schedule of this tally: the sum, since there is no minimum.
+    /// The bill of a tally that `walk` or `metered` of this problem wrote: the sum, since there is no minimum.
     pub fn bill(&self, tally: &Tally) -> Money
-        requires { IsTallyOfSome (inputs_of self.now) tally.now }
+        requires { IsCounted (inputs_of self.now) tally.now }
         ensures value { result ≡ sum_of (inputs_of self.now) tally.now }
         ensures schedule { (s : List ℕ) → tally.now ≡ tally_of (inputs_of self.now) s
             → result ≡ bill_of (inputs_of self.now) s }
+        ensures metered { tally.now ≡ metered_tally (inputs_of self.now)
+            → result ≡ metered_bill (inputs_of self.now) }
     {
         self.sum(tally)
     }

@@ -1,20 +1,32 @@
 //! February 2025, worked by hand: 672 hours of 1000 Wh each at 0.10 USD per kWh.
 
-ghost use Rattle.std.specs.Prelude.{◌≡◌, length, IfOk};
+ghost use Rattle.std.specs.Prelude.{◌≡◌, ◌^◌, length, IfOk};
+ghost use Rattle.d_num.specs.Amount.{IsWithin};
 
-use crate::{Arc, At, Battery, Meter, Mode, ModeList, Month, Name, NetList, Problem, Tally};
+use crate::{
+    Arc, At, Battery, Meter, Mode, ModeList, Month, Name, NetList, Problem, ScheduleFault, Tally,
+    is_start, read_schedule,
+};
 use d_num::{NoMemory, Rate, Watt, Wh};
-use std::alloc::Global;
+use d_table::read_table;
+use std::alloc::{AllocError, Global};
 use std::process::Abort;
 use std::test::Fail;
 
-/// The readings of the month.
-fn february(alloc: Global) -> Result<Meter, NoMemory>
+/// What is read in an hour: this in the first one, and 1000 Wh in every other.
+fn reading(first: i16, hour: u32) -> Wh
+    ensures { IsWithin (10 ^ 9) result }
+{
+    Wh::new(if hour == 0 { first as i64 } else { 1000 }).unwrap()
+}
+
+/// The readings of the month, with this one in the first hour.
+fn february(alloc: Global, first: i16) -> Result<Meter, NoMemory>
     ensures { IfOk result (λ m. length m.net ≡ 672) }
 {
     let mut net = NetList::new(alloc);
-    for _ in 0..672u32 {
-        net.add(Wh::new(1000).unwrap())?;
+    for hour in 0..672 {
+        net.add(reading(first, hour))?;
     }
     Ok(Meter {
         month: Month {
@@ -71,7 +83,7 @@ fn battery(
 fn bills_a_february(rt: HostRuntime) -> Result<(), Fail> {
     let alloc = rt.alloc();
     let price = Rate::new(100_000_000_000_000_000).unwrap();
-    let meter = february(alloc)?;
+    let meter = february(alloc, 1000)?;
     let rows: [(u8, u8, u8, u8, Result<i128, At>); 4] = [
         (0, 0, 0, 0, Ok(67_200_000_000_000_000_000_000)),
         (4, 0, 4, 0, Err(At { interval: 672 })),
@@ -96,9 +108,27 @@ fn bills_a_february(rt: HostRuntime) -> Result<(), Fail> {
 }
 
 #[test]
+fn bills_what_the_meter_shows(rt: HostRuntime) -> Result<(), Fail> {
+    let alloc = rt.alloc();
+    let price = Rate::new(100_000_000_000_000_000).unwrap();
+    let meter = february(alloc, -4000)?;
+    let battery = battery(&rt, alloc, 4, 1, 0)?;
+    let problem = Problem::plain(alloc, price, &meter, &battery)?;
+    let mut tally = Tally::new();
+    problem.metered(&mut tally);
+    assert_eq!(rt; tally.totals[0].value(), 671_000);
+    assert_eq!(rt; problem.sum(&tally).units(), 67_100_000_000_000_000_000_000);
+    assert_eq!(rt;
+        problem.bill(&tally).units(),
+        67_100_000_000_000_000_000_000
+    );
+    Ok(())
+}
+
+#[test]
 fn shows_what_it_was_made_of(rt: HostRuntime) -> Result<(), Fail> {
     let alloc = rt.alloc();
-    let meter = february(alloc)?;
+    let meter = february(alloc, 1000)?;
     let battery = battery(&rt, alloc, 4, 1, 0)?;
     let problem = Problem::plain(alloc, Rate::new(7).unwrap(), &meter, &battery)?;
     assert_eq!(rt;
@@ -122,6 +152,98 @@ fn shows_what_it_was_made_of(rt: HostRuntime) -> Result<(), Fail> {
         power: Watt::new(0).unwrap(),
     };
     assert_eq!(rt; problem.arc(0, 1), Some(discharge));
+    Ok(())
+}
+
+#[test]
+fn knows_the_start_of_an_interval(rt: HostRuntime) -> Result<(), Fail> {
+    let rows: [(&[u8], u8, u32, bool); 8] = [
+        (b"2024-02-29T23:45", 15, 2783, true),
+        (b"2024-02-29 23:45", 15, 2783, true),
+        (b"2024-02-29T23:45:00", 15, 2783, true),
+        (b"2024-02-29T11:30", 30, 1367, true),
+        (b"2024-02-01 00:00", 60, 0, true),
+        (b"2024-02-01T00:00Z", 60, 0, false),
+        (b"2024-2-01T00:00", 60, 0, false),
+        (b"2024-02-01T01:00", 60, 0, false),
+    ];
+    let month = Month {
+        year: 2024,
+        number: 2,
+    };
+    for (cell, minutes, index, want) in rows {
+        assert_eq!(rt; is_start(cell, month, minutes, index), want);
+    }
+    Ok(())
+}
+
+/// A file of so many rows from that hour of the month on, which idles in all of them but the sixth.
+fn schedule_text(
+    alloc: Global,
+    header: &str,
+    from: u16,
+    count: u16,
+    sixth: &str,
+) -> Result<String, AllocError> {
+    let mut text = format!(in alloc; "{header}\n")?;
+    for row in 0..count {
+        let hour = from as u32 + row as u32;
+        let day = hour / 24 + 1;
+        let time = hour % 24;
+        let mode = if row == 5 { sixth } else { "idle" };
+        let line = format!(in alloc; "2025-02-{day:02} {time:02}:00,{mode}\n")?;
+        text.push_str(line.as_str())?;
+    }
+    Ok(text)
+}
+
+#[test]
+fn reads_the_schedule_of_a_month(rt: HostRuntime) -> Result<(), Fail> {
+    let alloc = rt.alloc();
+    let meter = february(alloc, 1000)?;
+    let battery = battery(&rt, alloc, 4, 1, 0)?;
+    let problem = Problem::plain(alloc, Rate::new(7).unwrap(), &meter, &battery)?;
+    let cases: [(&str, u16, u16, &str, Result<(), ScheduleFault>); 5] = [
+        ("START,Mode", 0, 672, "discharge", Ok(())),
+        (
+            "start,net_wh",
+            0,
+            672,
+            "discharge",
+            Err(ScheduleFault::Shape),
+        ),
+        (
+            "start,mode",
+            0,
+            671,
+            "discharge",
+            Err(ScheduleFault::Count(671, 672)),
+        ),
+        (
+            "start,mode",
+            1,
+            672,
+            "discharge",
+            Err(ScheduleFault::Start(0)),
+        ),
+        (
+            "start,mode",
+            0,
+            672,
+            "Discharge",
+            Err(ScheduleFault::Mode(5)),
+        ),
+    ];
+    for (header, from, count, sixth, want) in cases {
+        let text = schedule_text(alloc, header, from, count, sixth)?;
+        let table = read_table(alloc, text.as_bytes())?;
+        let mut schedule = [9; 672];
+        assert_eq!(rt; problem.intervals(), 672);
+        let found = read_schedule(&table, &problem, &mut schedule);
+        assert_eq!(rt; found, want);
+        let shown = if found.is_ok() { (0, 1, 0) } else { (9, 9, 9) };
+        assert_eq!(rt; (schedule[4], schedule[5], schedule[671]), shown);
+    }
     Ok(())
 }
 

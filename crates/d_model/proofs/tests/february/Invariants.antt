@@ -3,5 +3,5 @@ use Rattle.std.specs.Prelude.{All}
 use Rattle.d_num.specs.Amount.{IsWithin}
 use Rattle.d_model.proofs.tests.february.Given as goal
 
-abbrev pub invariant-loop : goal.invariant-loop
-invariant-loop l = (length l.net ≡ l.counter) × All (IsWithin (10 ^ 9)) l.net
+abbrev pub invariant-loop-hour : goal.invariant-loop-hour
+invariant-loop-hour l = (length l.net ≡ l.hour) × All (IsWithin (10 ^ 9)) l.net

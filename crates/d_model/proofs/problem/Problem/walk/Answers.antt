@@ -1,4 +1,4 @@
-use Rattle.std.proofs.Common.{◌≡◌, ℤ, pos, ◌+ℤ◌, ◌+◌, ◌≤◌, rules, ◌<◌, to_z, w64, length, subst, sym, arith}
+use Rattle.std.proofs.Common.{◌≡◌, inl, ℤ, pos, ◌+ℤ◌, ◌+◌, ◌≤◌, rules, ◌<◌, to_z, w64, length, subst, sym, arith}
 use Rattle.std.specs.Prelude.{slice_index}
 use Rattle.std.proofs.lemmas.Int.{ints}
 use Rattle.d_model.specs.Shown.{inputs_of}
@@ -34,4 +34,4 @@ returns-clause-counted c =
     let last : c.loop-t.t ≡ length i.net = omega arith in
     let enough : i.storage.end ≤ c.loop-t.level = omega arith in
     let counted : c.of_import.result ≡ tally_of i s = search rules in
-    record { schedule = s; feasible = walked_whole i s c.loop-t.t c.loop-t.level (to_z w64 c.loop-t.total-bits) c.loop-t.invariant last c.requires enough; counted = counted }
+    inl (record { schedule = s; feasible = walked_whole i s c.loop-t.t c.loop-t.level (to_z w64 c.loop-t.total-bits) c.loop-t.invariant last c.requires enough; counted = counted })
