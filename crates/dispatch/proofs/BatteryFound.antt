@@ -9,7 +9,7 @@ use Rattle.dispatch.specs.declared.entry.Setting.{Setting}
 use Rattle.dispatch.specs.declared.entry.Setting.TheVariants.{Capacity, Floor, Start, End, MaxImport, MaxExport}
 use Rattle.dispatch.specs.declared.entry.Entry.{Entry}
 use Rattle.dispatch.specs.declared.entry.Entry.TheVariants.{Sets}
-use Rattle.dispatch.specs.Table.{row_at, IsHeader}
+use Rattle.d_table.specs.Table.{row_at, IsHeader}
 use Rattle.dispatch.specs.BatteryFile.{IsBatteryFile, IsEntry, battery_header, values_of, value_of, modes_of}
 use Rattle.dispatch.proofs.EntryFound.{entry_in, entry_only, entry_decided, mode_decided}
 use Rattle.dispatch.proofs.Deciding.{Decided, fails, Found, both, where_so, restated, candidate, at_most, up_to, same_number, same_integer, same_text, same_cells, each_item, each_got}

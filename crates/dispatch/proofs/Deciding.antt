@@ -1,44 +1,17 @@
 -- What can be decided over plain values: that it holds, or that it doesn't.
-use Rattle.std.proofs.Common.{◌≡◌, ◌⊎◌, inl, inr, ℕ, zero, suc, ◌<◌, ◌≤◌, Bool, true, false, ◌==◌, ltb, ℤ, pos, negsuc, ◌≤ℤ◌, List, [], ◌∷◌, length, All, slice_get, Decides, bytes_eq, IsTrue, refl, sym, ◌∙◌, arith, Option, None, Some, true≢false}
-use Rattle.std.proofs.lemmas.Bool.Decides.{Decides-eqb, Decides-ltb, Decides-int_eq}
-use Rattle.std.proofs.lemmas.Slice.Eq.{bytes_eq-Decides, slice_eq-Decides}
-use Rattle.std.specs.Cmp.Lexicographic.{pointwise}
+use Rattle.std.proofs.Common.{◌≡◌, ℕ, zero, suc, ◌<◌, ◌≤◌, Bool, true, false, ltb, ℤ, pos, negsuc, ◌≤ℤ◌, List, [], ◌∷◌, length, All, slice_get, IsTrue, refl, sym, ◌∙◌, arith, Option, None, Some, true≢false}
+use Rattle.std.proofs.lemmas.Bool.Decides.{Decides-ltb, Decides-int_eq}
 use Rattle.std.specs.List.{AllByRecursion}
 use Rattle.std.proofs.lemmas.List.Elements.{recursion_from_All, All-from_recursion}
 use Rattle.std.proofs.lemmas.Int.{ints}
 use Rattle.std.proofs.lemmas.Option.{slice_get_within}
 use Rattle.d_num.specs.Amount.{IsWithin, IsUpTo}
-
--- it holds, or it does not
-pub data Decided (P : Type 0) : Type 0 where
-  holds : P → Decided P
-  fails : (P → ⊥) → Decided P
+pub use Rattle.d_model.proofs.Deciding.{Decided, holds, fails, by_test, both, one_of, restated, same_number, same_text, same_cells}
 
 -- one value of which it holds, or none
 pub data Found {A : Type 0} (P : A → Type 0) : Type 0 where
   found : (x : A) → P x → Found P
   nothing : ((x : A) → P x → ⊥) → Found P
-
--- by a test
-pub by_test : {P : Type 0} (r : Bool) → Decides r P → Decided P
-by_test true d = holds (d.0 refl)
-by_test false d = fails (λ p. true≢false (sym (d.1 p)))
-
--- both of two
-pub both : {P Q : Type 0} → Decided P → Decided Q → Decided (P × Q)
-both (holds p) (holds q) = holds (p, q)
-both (holds p) (fails none) = fails (λ h. none h.1)
-both (fails none) d = fails (λ h. none h.0)
-
--- one of two
-pub one_of : {P Q : Type 0} → Decided P → Decided Q → Decided (P ⊎ Q)
-one_of (holds p) d = holds (inl p)
-one_of (fails none) (holds q) = holds (inr q)
-one_of {P} {Q} (fails none) (fails other) = fails neither
-  where
-    neither : P ⊎ Q → ⊥
-    neither (inl p) = none p
-    neither (inr q) = other q
 
 -- the opposite
 pub opposite : {P : Type 0} → Decided P → Decided (P → ⊥)
@@ -50,15 +23,6 @@ pub where_so : {P Q : Type 0} → Decided P → Decided Q → Decided (P → Q)
 where_so (holds p) (holds q) = holds (λ _. q)
 where_so (holds p) (fails none) = fails (λ h. none (h p))
 where_so (fails none) d = holds (λ p. absurd (none p))
-
--- the same in other words
-pub restated : {P Q : Type 0} → (P → Q) → (Q → P) → Decided P → Decided Q
-restated there back (holds p) = holds (there p)
-restated there back (fails none) = fails (λ q. none (back q))
-
--- numbers
-pub same_number : (x y : ℕ) → Decided (x ≡ y)
-same_number x y = by_test (x == y) (Decides-eqb x y)
 
 -- one is below another
 pub is_below : (x y : ℕ) → Decided (x < y)
@@ -91,14 +55,6 @@ up_to most z = both (integer_at_most _ z) (integer_at_most z _)
 pub is_true : (b : Bool) → Decided (IsTrue b)
 is_true true = holds refl
 is_true false = fails (λ e. true≢false (sym e))
-
--- texts, and rows of them
-pub same_text : (xs ys : List ℕ) → Decided (xs ≡ ys)
-same_text xs ys = by_test (bytes_eq xs ys) (bytes_eq-Decides xs ys)
-
--- rows of texts
-pub same_cells : (xs ys : List (List ℕ)) → Decided (xs ≡ ys)
-same_cells xs ys = by_test (pointwise bytes_eq xs ys) (slice_eq-Decides bytes_eq-Decides xs ys (pointwise bytes_eq xs ys) refl)
 
 -- of each number below a bound
 pub each_below : (P : ℕ → Type 0) → ((k : ℕ) → Decided (P k)) → (n : ℕ) → Decided ((k : ℕ) → k < n → P k)

@@ -1,38 +1,35 @@
 -- A row says at most one thing.
-use Rattle.std.proofs.Common.{◌≡◌, ℕ, ◌^◌, ◌<◌, ◌≤◌, ℤ, pos, ◌≤ℤ◌, List, [], length, FitsSigned, arith, sym, ap, ◌∙◌, subst, inl, inr, codes}
-use Rattle.std.specs.Int.{w64}
+use Rattle.std.proofs.Common.{◌≡◌, ℕ, ◌^◌, ◌<◌, ◌≤◌, ℤ, pos, ◌≤ℤ◌, List, [], length, arith, sym, ap, ◌∙◌, subst, inl, inr, codes}
 use Rattle.std.proofs.lemmas.Int.{ints}
-use Rattle.std.proofs.lemmas.Fmt.{signed_decimal_injective, decimal_nonempty}
-use Rattle.dispatch.specs.Number.{IsWholeText}
 use Rattle.d_model.specs.declared.mode.Mode.{Mode}
 use Rattle.dispatch.specs.declared.entry.Entry.{Entry}
 use Rattle.dispatch.specs.declared.entry.Entry.TheVariants.{Sets, Has}
-use Rattle.dispatch.specs.Table.{cell_in}
-use Rattle.dispatch.specs.BatteryFile.{IsLevelText, IsEntry, IsModeRow}
+use Rattle.d_table.specs.Table.{cell_in}
+use Rattle.dispatch.specs.BatteryFile.{IsWhole, IsLevelText, IsEntry, IsModeRow}
+use Rattle.d_text.proofs.DecimalLaws.{decimal_same}
+use Rattle.dispatch.proofs.DecimalFound.{empty_none}
 
--- a text is that of one number
-pub whole_same : (cell : List ℕ) (y z : ℤ) → FitsSigned w64 y → FitsSigned w64 z → IsWholeText cell y → IsWholeText cell z → y ≡ z
-whole_same cell y z fits others one other = signed_decimal_injective y z fits.sfits others.sfits (sym one ∙ other)
+-- a cell writes one number
+pub whole_same : (cell : List ℕ) (y z : ℤ) → IsWhole cell y → IsWhole cell z → y ≡ z
+unfolding IsWhole
+whole_same cell y z one other = decimal_same cell 0 (10 ^ 10) y z one other
 
--- a number between two that fit fits
-pub fits_between : (least most z : ℤ) → FitsSigned w64 least → FitsSigned w64 most → least ≤ℤ z → z ≤ℤ most → FitsSigned w64 z
-fits_between least most z low high above below = omega (arith, ints)
-
--- no number is written as an empty cell
-pub empty_none : (n : ℕ) → n < 2 ^ 64 → IsWholeText [] (pos n) → ⊥
-empty_none n small text = let some = decimal_nonempty n small in let none = ap (λ (t : List ℕ). length t) text in omega arith
+-- a level isn't written as an empty cell
+level_some : (cell : List ℕ) (level : ℕ) → cell ≡ [] → IsWhole cell (pos level) → ⊥
+unfolding IsWhole
+level_some cell level empty is = empty_none 0 (10 ^ 10) (pos level) (subst (λ (c : List ℕ). IsWhole c (pos level)) empty is)
 
 -- a cell gives one level
-pub level_same : (absent : ℕ) (cell : List ℕ) (a b : ℕ) → a ≤ 255 → b ≤ 255 → IsLevelText absent cell a → IsLevelText absent cell b → a ≡ b
-level_same absent cell a b small short (inl one) (inl other) = one.1 ∙ sym other.1
-level_same absent cell a b small short (inl one) (inr other) = absurd (empty_none b (omega arith) (sym one.0 ∙ other))
-level_same absent cell a b small short (inr one) (inl other) = absurd (empty_none a (omega arith) (sym other.0 ∙ one))
-level_same absent cell a b small short (inr one) (inr other) =
-    let same : pos a ≡ pos b = whole_same cell (pos a) (pos b) (omega (arith, ints)) (omega (arith, ints)) one other in
+pub level_same : (absent : ℕ) (cell : List ℕ) (a b : ℕ) → IsLevelText absent cell a → IsLevelText absent cell b → a ≡ b
+level_same absent cell a b (inl one) (inl other) = one.1 ∙ sym other.1
+level_same absent cell a b (inl one) (inr other) = absurd (level_some cell b one.0 other)
+level_same absent cell a b (inr one) (inl other) = absurd (level_some cell a other.0 one)
+level_same absent cell a b (inr one) (inr other) =
+    let same : pos a ≡ pos b = whole_same cell (pos a) (pos b) one other in
     cc
 
 -- a cell that isn't empty gives no level where it is no number up to 255
-pub level_none : (absent : ℕ) (cell : List ℕ) → 0 < length cell → ((number : ℤ) → IsWholeText cell number → pos 0 ≤ℤ number → number ≤ℤ pos 255 → ⊥)
+pub level_none : (absent : ℕ) (cell : List ℕ) → 0 < length cell → ((number : ℤ) → IsWhole cell number → pos 0 ≤ℤ number → number ≤ℤ pos 255 → ⊥)
     → (level : ℕ) → level ≤ 255 → IsLevelText absent cell level → ⊥
 level_none absent cell some bad level small (inl empty) = let none = ap (λ (t : List ℕ). length t) empty.0 in omega arith
 level_none absent cell some bad level small (inr text) = bad (pos level) text (omega (arith, ints)) (omega (arith, ints))
@@ -63,12 +60,11 @@ high_none row cell kind is bad entry says =
 
 -- nor where the lower one is above the upper one
 pub order_none : (row : List (List ℕ)) (low_cell high_cell : List ℕ) (low high : ℕ) → cell_in row 0 ≡ codes "mode" → low_cell ≡ cell_in row 4
-    → high_cell ≡ cell_in row 5 → low ≤ 255 → high ≤ 255 → IsLevelText 0 low_cell low → IsLevelText 255 high_cell high → high < low
+    → high_cell ≡ cell_in row 5 → IsLevelText 0 low_cell low → IsLevelText 255 high_cell high → high < low
     → (entry : Entry) → IsEntry row entry → ⊥
-order_none row low_cell high_cell low high kind low_at high_at low_small high_small low_is high_is crossed entry says =
+order_none row low_cell high_cell low high kind low_at high_at low_is high_is crossed entry says =
     let m = mode_of row kind entry says in
     let ordered = m.1.range.ordered in
-    let top = m.1.range.top in
-    let one = level_same 0 (cell_in row 4) low m.0.low low_small (omega arith) (rw low_at at low_is) m.1.low in
-    let other = level_same 255 (cell_in row 5) high m.0.high high_small top (rw high_at at high_is) m.1.high in
+    let one = level_same 0 (cell_in row 4) low m.0.low (rw low_at at low_is) m.1.low in
+    let other = level_same 255 (cell_in row 5) high m.0.high (rw high_at at high_is) m.1.high in
     omega arith

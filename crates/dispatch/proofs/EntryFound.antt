@@ -1,17 +1,14 @@
 -- A row of a battery file is one entry, or none.
-use Rattle.std.proofs.Common.{◌≡◌, inl, inr, ℕ, ◌^◌, ◌<◌, ◌≤◌, ℤ, pos, List, [], ◌∷◌, length, IsTrue, bytes_eq, cond, codes, refl, sym, ap, ◌∙◌, arith}
-use Rattle.std.specs.Str.Parse.{digits_value}
-use Rattle.std.proofs.lemmas.Fmt.{decimal_is_IsNumeral}
+use Rattle.std.proofs.Common.{◌≡◌, inl, inr, ℕ, ◌^◌, ℤ, pos, unsigned_abs, List, [], ◌∷◌, length, IsTrue, bytes_eq, cond, codes, refl, sym, ap, ◌∙◌, arith}
 use Rattle.d_model.specs.declared.mode.Mode.{Mode}
 use Rattle.d_model.specs.Storage.{IsMode}
 use Rattle.dispatch.specs.declared.entry.Setting.{Setting}
 use Rattle.dispatch.specs.declared.entry.Setting.TheVariants.{Capacity, Floor, Start, End, MaxImport, MaxExport}
 use Rattle.dispatch.specs.declared.entry.Entry.{Entry}
 use Rattle.dispatch.specs.declared.entry.Entry.TheVariants.{Sets, Has}
-use Rattle.dispatch.specs.Table.{cell_in}
-use Rattle.dispatch.specs.BatteryFile.{IsEntry, IsSetRow, IsModeRow, IsModeName, IsLevelText, setting_name, setting_limit, is_name_byte}
-use Rattle.dispatch.proofs.EntryFacts.{empty_none}
-use Rattle.dispatch.proofs.WholeFound.{whole_value, whole_within, whole_up_to, whole_decided}
+use Rattle.d_table.specs.Table.{cell_in}
+use Rattle.dispatch.specs.BatteryFile.{IsWhole, IsEntry, IsSetRow, IsModeRow, IsModeName, IsLevelText, setting_name, setting_limit, is_name_byte}
+use Rattle.dispatch.proofs.DecimalFound.{decimal_in, decimal_only, decimal_here, empty_none}
 use Rattle.dispatch.proofs.Deciding.{Decided, both, one_of, restated, at_most, within, up_to, is_true, same_number, same_text, each_item}
 
 -- the only setting that may have this name
@@ -29,18 +26,36 @@ named End = refl
 named MaxImport = refl
 named MaxExport = refl
 
+-- the only number that a cell may write
+whole_value : List ℕ → ℤ
+whole_value cell = decimal_in cell 0 (10 ^ 10)
+
+whole_only : (cell : List ℕ) (z : ℤ) → IsWhole cell z → z ≡ whole_value cell
+unfolding whole_value IsWhole
+whole_only cell z is = decimal_only cell 0 (10 ^ 10) z is
+
+-- a cell writes this number
+whole_decided : (cell : List ℕ) (z : ℤ) → Decided (IsWhole cell z)
+unfolding IsWhole
+whole_decided cell z = decimal_here cell 0 (10 ^ 10) z
+
+-- an empty cell writes none
+whole_some : (level : ℕ) → IsWhole [] (pos level) → ⊥
+unfolding IsWhole
+whole_some level is = empty_none 0 (10 ^ 10) (pos level) is
+
 -- the only level that a cell may give
 level_in : ℕ → List ℕ → ℕ
 level_in absent [] = absent
-level_in absent (b ∷ bs) = digits_value 10 (b ∷ bs)
+level_in absent (b ∷ bs) = unsigned_abs (whole_value (b ∷ bs))
 
 -- a cell gives no other level
-level_only : (absent : ℕ) (cell : List ℕ) (level : ℕ) → level ≤ 255 → IsLevelText absent cell level → level ≡ level_in absent cell
+level_only : (absent : ℕ) (cell : List ℕ) (level : ℕ) → IsLevelText absent cell level → level ≡ level_in absent cell
 unfolding level_in
-level_only absent [] level small (inl empty) = empty.1
-level_only absent [] level small (inr text) = absurd (empty_none level (omega arith) text)
-level_only absent (b ∷ bs) level small (inl empty) = let none = ap (λ (t : List ℕ). length t) empty.0 in absurd (omega arith)
-level_only absent (b ∷ bs) level small (inr text) = sym (ap (digits_value 10) text ∙ (decimal_is_IsNumeral level (omega arith)).1)
+level_only absent [] level (inl empty) = empty.1
+level_only absent [] level (inr text) = absurd (whole_some level text)
+level_only absent (b ∷ bs) level (inl empty) = let none = ap (λ (t : List ℕ). length t) empty.0 in absurd (omega arith)
+level_only absent (b ∷ bs) level (inr text) = ap unsigned_abs (whole_only (b ∷ bs) (pos level) text)
 
 -- a cell gives this level
 level_decided : (absent : ℕ) (cell : List ℕ) (level : ℕ) → Decided (IsLevelText absent cell level)
@@ -60,10 +75,10 @@ mode_in row = record {
 mode_only : (row : List (List ℕ)) (mode : Mode) → IsModeRow row mode → mode ≡ mode_in row
 unfolding mode_in
 mode_only row mode r = all mode.name mode.change mode.grid mode.low mode.high (sym r.name)
-    (whole_within 255 (cell_in row 2) mode.change (omega arith) r.range.change r.change)
-    (whole_within (10 ^ 9) (cell_in row 3) mode.grid (omega arith) r.range.grid r.grid)
-    (level_only 0 (cell_in row 4) mode.low (omega (arith, r.range.ordered, r.range.top)) r.low)
-    (level_only 255 (cell_in row 5) mode.high r.range.top r.high)
+    (whole_only (cell_in row 2) mode.change r.change)
+    (whole_only (cell_in row 3) mode.grid r.grid)
+    (level_only 0 (cell_in row 4) mode.low r.low)
+    (level_only 255 (cell_in row 5) mode.high r.high)
   where
     made : List ℕ → ℤ → ℤ → ℕ → ℕ → Mode
     made n c g l h = record { name = n; change = c; grid = g; low = l; high = h }
@@ -85,16 +100,8 @@ entry_in row = entry_of (cell_in row 0) row
 pub entry_only : (row : List (List ℕ)) (entry : Entry) → IsEntry row entry → entry ≡ entry_in row
 unfolding entry_of entry_in
 entry_only row (Sets setting value) r = same setting value (sym (ap setting_in r.name ∙ named setting))
-    (whole_up_to (setting_limit setting) (cell_in row 2) value (limit_small setting) r.range r.number) ∙ sym (ap (λ (k : List ℕ). entry_of k row) r.kind)
+    (whole_only (cell_in row 2) value r.number) ∙ sym (ap (λ (k : List ℕ). entry_of k row) r.kind)
   where
-    limit_small : (setting : Setting) → setting_limit setting < 2 ^ 62
-    limit_small Capacity = omega arith
-    limit_small Floor = omega arith
-    limit_small Start = omega arith
-    limit_small End = omega arith
-    limit_small MaxImport = omega arith
-    limit_small MaxExport = omega arith
-
     same : (s : Setting) (v : ℤ) → s ≡ setting_in (cell_in row 1) → v ≡ whole_value (cell_in row 2)
         → Sets s v ≡ Sets (setting_in (cell_in row 1)) (whole_value (cell_in row 2))
     same s v es ev = rw (es, ev) refl

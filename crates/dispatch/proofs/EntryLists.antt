@@ -1,10 +1,7 @@
 -- The rows of a battery file give one list of entries.
-use Rattle.std.proofs.Common.{◌≡◌, ℕ, zero, suc, ◌+◌, ◌^◌, ◌<◌, ◌≤◌, ℤ, pos, List, [], ◌∷◌, ◌++◌, length, Option, Some, None, unwrap_or, slice_get, slice_index, FitsSigned, arith, refl, sym, ap, ◌∙◌, subst, inl, inr, length-append}
-use Rattle.std.specs.Int.{w64}
-use Rattle.std.proofs.lemmas.Int.{ints}
+use Rattle.std.proofs.Common.{◌≡◌, ℕ, zero, suc, ◌+◌, ◌^◌, ◌<◌, ◌≤◌, ℤ, pos, List, [], ◌∷◌, ◌++◌, length, Option, Some, None, unwrap_or, slice_get, slice_index, arith, refl, sym, ap, ◌∙◌, subst, inl, inr, length-append}
 use Rattle.std.proofs.lemmas.Option.{slice_get_cases}
 use Rattle.std.proofs.lemmas.List.{append-nil}
-use Rattle.d_num.specs.Amount.{IsWithin, IsUpTo}
 use Rattle.d_model.specs.declared.mode.Mode.{Mode}
 use Rattle.d_model.specs.Storage.{Storage, HasDifferentNames}
 use Rattle.dispatch.specs.declared.draft.Draft.{Draft}
@@ -12,8 +9,8 @@ use Rattle.dispatch.specs.declared.entry.Setting.{Setting}
 use Rattle.dispatch.specs.declared.entry.Setting.TheVariants.{Capacity, Floor, Start, End, MaxImport, MaxExport}
 use Rattle.dispatch.specs.declared.entry.Entry.{Entry}
 use Rattle.dispatch.specs.declared.entry.Entry.TheVariants.{Sets, Has}
-use Rattle.dispatch.specs.Table.{row_at, cell_in, IsHeader}
-use Rattle.dispatch.specs.BatteryFile.{IsEntry, IsModeRow, IsBatteryFile, battery_header, setting_name, setting_limit, modes_of, value_of}
+use Rattle.d_table.specs.Table.{row_at, cell_in, IsHeader}
+use Rattle.dispatch.specs.BatteryFile.{IsEntry, IsModeRow, IsBatteryFile, battery_header, setting_name, modes_of, value_of}
 use Rattle.dispatch.specs.Draft.{AreEntries, IsUsable, IsLimited, IsDraftOf, MakesStorage, value_in}
 use Rattle.dispatch.proofs.EntryFacts.{whole_same, level_same, kinds_differ}
 use Rattle.dispatch.proofs.DraftFacts.{get_push, usable_front}
@@ -30,17 +27,6 @@ setting_same MaxImport MaxImport e = refl
 setting_same MaxExport MaxExport e = refl
 setting_same one other e = let fifth = ap (λ (name : List ℕ). slice_index name 4) e in absurd (omega arith)
 
-limited_fits : (setting : Setting) (value : ℤ) → IsUpTo (setting_limit setting) value → FitsSigned w64 value
-limited_fits Capacity value range = omega (arith, ints)
-limited_fits Floor value range = omega (arith, ints)
-limited_fits Start value range = omega (arith, ints)
-limited_fits End value range = omega (arith, ints)
-limited_fits MaxImport value range = omega (arith, ints)
-limited_fits MaxExport value range = omega (arith, ints)
-
-within_fits : (most : ℕ) (z : ℤ) → most ≤ 10 ^ 9 → IsWithin most z → FitsSigned w64 z
-within_fits most z small range = omega (arith, ints)
-
 -- a mode by its fields
 abbrev made : List ℕ → ℤ → ℤ → ℕ → ℕ → Mode
 made name change grid low high = record { name = name; change = change; grid = grid; low = low; high = high }
@@ -48,16 +34,10 @@ made name change grid low high = record { name = name; change = change; grid = g
 mode_same : (row : List (List ℕ)) (one other : Mode) → IsModeRow row one → IsModeRow row other → one ≡ other
 mode_same row one other is says =
     let name : one.name ≡ other.name = sym is.name ∙ says.name in
-    let change = whole_same (cell_in row 2) one.change other.change (within_fits 255 one.change (omega arith) is.range.change)
-    (within_fits 255 other.change (omega arith) says.range.change) is.change says.change in
-    let grid = whole_same (cell_in row 3) one.grid other.grid (within_fits (10 ^ 9) one.grid (omega arith) is.range.grid)
-    (within_fits (10 ^ 9) other.grid (omega arith) says.range.grid) is.grid says.grid in
-    let ordered = is.range.ordered in
-    let top = is.range.top in
-    let order = says.range.ordered in
-    let most = says.range.top in
-    let low = level_same 0 (cell_in row 4) one.low other.low (omega arith) (omega arith) is.low says.low in
-    let high = level_same 255 (cell_in row 5) one.high other.high top most is.high says.high in
+    let change = whole_same (cell_in row 2) one.change other.change is.change says.change in
+    let grid = whole_same (cell_in row 3) one.grid other.grid is.grid says.grid in
+    let low = level_same 0 (cell_in row 4) one.low other.low is.low says.low in
+    let high = level_same 255 (cell_in row 5) one.high other.high is.high says.high in
     let both : made one.name one.change one.grid one.low one.high ≡ made other.name other.change other.grid other.low other.high =
     ap (λ (n : List ℕ). made n one.change one.grid one.low one.high) name ∙ (ap (λ (c : ℤ). made other.name c one.grid one.low one.high) change
     ∙ (ap (λ (g : ℤ). made other.name other.change g one.low one.high) grid ∙ (ap (λ (l : ℕ). made other.name other.change other.grid l one.high) low
@@ -68,7 +48,7 @@ mode_same row one other is says =
 entry_same : (row : List (List ℕ)) (one other : Entry) → IsEntry row one → IsEntry row other → one ≡ other
 entry_same row (Sets setting value) (Sets other number) is says =
     let same = setting_same setting other (sym is.name ∙ says.name) in
-    let one = whole_same (cell_in row 2) value number (limited_fits setting value is.range) (limited_fits other number says.range) is.number says.number in
+    let one = whole_same (cell_in row 2) value number is.number says.number in
     cc
 entry_same row (Has mode) (Has other) is says = ap Has (mode_same row mode other is says)
 entry_same row (Sets setting value) (Has mode) is says = absurd (kinds_differ (sym says.kind ∙ is.kind))

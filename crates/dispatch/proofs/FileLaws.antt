@@ -1,27 +1,15 @@
 -- A file means one thing at most.
-use Rattle.std.proofs.Common.{◌≡◌, ℕ, ℤ, pos, ◌^◌, List, [], ◌∷◌, ◌++◌, length, length-append, Option, Some, unwrap_or, arith, refl, sym, ap, subst, ◌∙◌}
+use Rattle.std.proofs.Common.{◌≡◌, ℕ, ℤ, pos, ◌^◌, List, [], ◌∷◌, ◌++◌, length, length-append, Option, Some, unwrap_or, arith, refl, sym, ap, ◌∙◌}
 use Rattle.std.proofs.lemmas.List.{append-nil}
 use Rattle.d_model.specs.Storage.{Storage}
 use Rattle.d_model.specs.declared.mode.Mode.{Mode}
 use Rattle.dispatch.specs.declared.entry.Entry.{Entry}
 use Rattle.dispatch.specs.declared.entry.Setting.{Setting}
 use Rattle.dispatch.specs.declared.entry.Setting.TheVariants.{Capacity, Floor, Start, End, MaxImport, MaxExport}
-use Rattle.dispatch.specs.Table.{row_at, cell_in}
-use Rattle.dispatch.specs.Number.{IsPriceText}
-use Rattle.dispatch.specs.Record.{IsRecord}
 use Rattle.dispatch.specs.ReadingsFile.{IsReadingsFile}
 use Rattle.dispatch.specs.BatteryFile.{IsBatteryFile, value_of, modes_of}
 use Rattle.dispatch.proofs.EntryLists.{first_entries}
-use Rattle.dispatch.proofs.PriceTexts.{price_text_same}
 use Rattle.dispatch.proofs.ReadingsFacts.{one_year, one_number, one_list}
-
--- a record has one price
-pub price_same : (rows : List (List (List ℕ))) (label : List ℕ) (one other : ℕ) → IsRecord rows label one → IsRecord rows label other → one ≡ other
-price_same rows label one other is is_other =
-    let found : Some is.price_at ≡ Some is_other.price_at = sym is.price_column_is ∙ is_other.price_column_is in
-    let same : is_other.price_at ≡ is.price_at = cc in
-    let P : ℕ → Type 0 = λ column. IsPriceText (cell_in (row_at rows 1) column) other in
-    price_text_same (cell_in (row_at rows 1) is.price_at) one other is.price_is (subst P same is_other.price_is)
 
 -- a readings file is one month's, with one list of readings
 pub record SameMonth (year year' : ℤ) (number number' : ℕ) (net net' : List ℤ) : Type 0 where

@@ -8,8 +8,8 @@ use Rattle.std.proofs.lemmas.Int.{ints, to_z_pos}
 use Rattle.std.proofs.lemmas.List.{length-replicate, take_at, drop_at}
 use Rattle.std.proofs.lemmas.Fmt.{decimal_is_IsNumeral, length-decimal-le}
 use Rattle.d_model.specs.Calendar.{IsMonth}
-use Rattle.dispatch.specs.Text.{zero_padded, time_text}
-use Rattle.dispatch.specs.ReadingsFile.{IsStartText}
+use Rattle.d_text.specs.Text.{zero_padded}
+use Rattle.d_model.specs.Starts.{IsStartText, time_text}
 
 -- zeros in front of digits leave them digits
 zeros-digits : (count : ℕ) (ds : List ℕ) → AllDigits 10 ds → AllDigits 10 (replicate count 48 ++ ds)

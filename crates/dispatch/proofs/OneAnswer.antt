@@ -1,81 +1,156 @@
--- To a list of words and files there is one answer at most.
-use Rattle.std.proofs.Common.{◌≡◌, ℕ, ℤ, List, sym, ap, subst, ◌∙◌, arith}
-use Rattle.d_desk.specs.Scene.{Files}
-use Rattle.d_model.specs.Storage.{Storage}
-use Rattle.d_model.specs.Inputs.{Inputs}
-use Rattle.d_model.proofs.Laws.{first_least_same}
-use Rattle.dispatch.specs.Words.{Asked}
-use Rattle.dispatch.specs.Text.{plan_text}
-use Rattle.dispatch.specs.Answer.{Answer, IsAnswer, IsWithRecord, IsWithReadings, IsWithBattery, IsPlanned, opens_all, hourly_inputs, no_request, request, record_too_long, no_price, has_price, readings_too_long, no_month, has_month, battery_too_long, no_battery, has_battery, no_schedule, least}
+-- To every list of words and all files there is exactly one answer.
+use Rattle.std.proofs.Common.{◌≡◌, ◌⊎◌, inl, inr, ℕ, ◌^◌, ◌<◌, ◌≤◌, ℤ, List, length, refl, sym, ap, subst, ◌∙◌, arith}
+use Rattle.d_desk.specs.Scene.{Files, bytes_in}
+use Rattle.d_model.specs.Inputs.{Inputs, IsInRange}
+use Rattle.d_model.specs.Schedules.{IsFeasible, IsFirstBreak}
+use Rattle.d_model.specs.Bills.{IsFirstLeast, bill_of}
+use Rattle.d_model.proofs.Laws.{first_least_same, break_excludes, first_break_same}
+use Rattle.dispatch.specs.Words.{Asked, Wanted, IsRequest, plan_with, metered_bill as wants_metered_bill, schedule_bill}
+use Rattle.dispatch.specs.Text.{plan_text, bill_text, break_text}
+use Rattle.dispatch.specs.Record.{IsRecord}
+use Rattle.dispatch.specs.BatteryFile.{IsBatteryFile}
+use Rattle.dispatch.specs.ReadingsFile.{Hourly, IsHourly}
+use Rattle.dispatch.specs.Answer.{Answer, Reads, is_too_long, is_refused, goes_on, says, after_opening, refused, IsPlanned, no_schedule, least, IsBilled, billed, broken, IsFor, IsWithPrice, IsAnswerTo, IsAnswer, no_request, request, hourly_inputs, rows_in, ReadsSchedule, RefusesRecord, RefusesReadings, RefusesBattery, RefusesSchedule, MeansSchedule}
+use Rattle.dispatch.specs.Law.{HasAnswer}
 use Rattle.dispatch.specs.declared.verdict.Verdict.TheVariants as verdict
-use Rattle.dispatch.proofs.AnswerFacts.{one_request}
-use Rattle.dispatch.proofs.FileLaws.{price_same, month_same, battery_same}
+use Rattle.dispatch.specs.declared.fault.Refusal.{Refusal}
+use Rattle.dispatch.specs.declared.fault.Refusal.TheVariants.{Words, LongRecord, LongReadings, LongBattery, LongSchedule}
+use Rattle.dispatch.proofs.StageFacts.{IsKnown, known_refused, known_value}
+use Rattle.dispatch.proofs.LeastWays.{exists_least}
+use Rattle.dispatch.proofs.Deciding.{Decided, holds, fails, Found, found, nothing, at_most}
+use Rattle.dispatch.proofs.RequestFound.{request_found, one_request}
+use Rattle.dispatch.proofs.RecordFound.{record_known}
+use Rattle.dispatch.proofs.FilesKnown.{month_known, battery_known, schedule_known, hourly_in_range}
+use Rattle.dispatch.proofs.ScheduleBreaks.{break_or_feasible}
 
--- of the same inputs
-planned_same : (inputs : Inputs) (asked : Asked) (one other : Answer) → IsPlanned inputs asked one → IsPlanned inputs asked other → one ≡ other
-planned_same inputs asked one other (no_schedule none is) (no_schedule none2 is2) = is ∙ sym is2
-planned_same inputs asked one other (no_schedule none is) (least s first is2) = absurd (none s first.least.feasible)
-planned_same inputs asked one other (least s first is) (no_schedule none is2) = absurd (none s first.least.feasible)
-planned_same inputs asked one other (least s first is) (least s2 first2 is2) =
-    is ∙ ap (λ (z : List ℕ). record { verdict = verdict.Done; text = plan_text inputs asked.label z; openings = opens_all asked }) (first_least_same inputs s s2 first first2) ∙ sym is2
+-- an answer of which this holds, and of no other
+pub record HasOne (Is : Answer → Type 0) : Type 0 where
+  pub answer : Answer
+  pub is : Is answer
+  pub only : (other : Answer) → Is other → other ≡ answer
 
--- of one record and month
-battery_answer : (files : Files) (asked : Asked) (price : ℕ) (year : ℤ) (number : ℕ) (net : List ℤ) (one other : Answer)
-    → IsWithBattery files asked price year number net one → IsWithBattery files asked price year number net other → one ≡ other
-battery_answer files asked price year number net one other (battery_too_long above is) (battery_too_long above2 is2) = is ∙ sym is2
-battery_answer files asked price year number net one other (battery_too_long above is) (no_battery within none is2) = absurd (omega arith)
-battery_answer files asked price year number net one other (battery_too_long above is) (has_battery within storage means with) = absurd (omega arith)
-battery_answer files asked price year number net one other (no_battery within none is) (battery_too_long above is2) = absurd (omega arith)
-battery_answer files asked price year number net one other (no_battery within none is) (no_battery within2 none2 is2) = is ∙ sym is2
-battery_answer files asked price year number net one other (no_battery within none is) (has_battery within2 storage means with) = absurd (none storage means)
-battery_answer files asked price year number net one other (has_battery within storage means with) (battery_too_long above is2) = absurd (omega arith)
-battery_answer files asked price year number net one other (has_battery within storage means with) (no_battery within2 none is2) = absurd (none storage means)
-battery_answer files asked price year number net one other (has_battery within s means with) (has_battery within2 s2 means2 with2) =
-    let P : Storage → Type 0 = λ storage. IsPlanned (hourly_inputs price year number net storage) asked other in
-    planned_same (hourly_inputs price year number net s) asked one other with (subst P (battery_same _ s2 s means2 means) with2)
+-- one file's part
+module _ {V : Type 0} (files : Files) (name : List ℕ) (limit : ℕ) (too_long : Refusal) (Refuses : Answer → Type 0) (Means : V → Type 0) (Next : V → Answer → Type 0) where
+  pub reads_one : IsKnown Refuses Means → ((value : V) → Means value → HasOne (Next value)) → HasOne (Reads files name limit too_long Refuses Means Next)
+  reads_one known next = by_size (at_most (length (bytes_in files name)) limit)
+    where
+      long_only : limit < length (bytes_in files name) → (other : Answer) → Reads files name limit too_long Refuses Means Next other → other ≡ after_opening name (refused too_long)
+      long_only above other (is_too_long more is) = is
+      long_only above other (is_refused within end refuses is) = absurd (omega arith)
+      long_only above other (goes_on within value means rest follows is) = absurd (omega arith)
 
--- of one record
-readings_answer : (files : Files) (asked : Asked) (price : ℕ) (one other : Answer) → IsWithReadings files asked price one → IsWithReadings files asked price other → one ≡ other
-readings_answer files asked price one other (readings_too_long above is) (readings_too_long above2 is2) = is ∙ sym is2
-readings_answer files asked price one other (readings_too_long above is) (no_month within none is2) = absurd (omega arith)
-readings_answer files asked price one other (readings_too_long above is) (has_month within year number net means with) = absurd (omega arith)
-readings_answer files asked price one other (no_month within none is) (readings_too_long above is2) = absurd (omega arith)
-readings_answer files asked price one other (no_month within none is) (no_month within2 none2 is2) = is ∙ sym is2
-readings_answer files asked price one other (no_month within none is) (has_month within2 year number net means with) = absurd (none year number net means)
-readings_answer files asked price one other (has_month within year number net means with) (readings_too_long above is2) = absurd (omega arith)
-readings_answer files asked price one other (has_month within year number net means with) (no_month within2 none is2) = absurd (none year number net means)
-readings_answer files asked price one other (has_month within year number net means with) (has_month within2 year2 number2 net2 means2 with2) =
-    let same = month_same _ year2 year number2 number net2 net means2 means in
-    battery_answer files asked price year number net one other with
-    (moved year2 number2 net2 year number net same.year_is same.number_is same.net_is with2)
+      refused_only : length (bytes_in files name) ≤ limit → (end : Answer) → ((other : Answer) → Refuses other → other ≡ end) → ((value : V) → Means value → ⊥)
+          → (other : Answer) → Reads files name limit too_long Refuses Means Next other → other ≡ after_opening name end
+      refused_only within end only none other (is_too_long above is) = absurd (omega arith)
+      refused_only within end only none other (is_refused fits stop refuses is) = is ∙ ap (after_opening name) (only stop refuses)
+      refused_only within end only none other (goes_on fits value means rest follows is) = absurd (none value means)
+
+      value_only : length (bytes_in files name) ≤ limit → (value : V) → ((other : V) → Means other → other ≡ value) → ((end : Answer) → Refuses end → ⊥)
+          → (one : HasOne (Next value)) → (other : Answer) → Reads files name limit too_long Refuses Means Next other → other ≡ after_opening name one.answer
+      value_only within value only none one other (is_too_long above is) = absurd (omega arith)
+      value_only within value only none one other (is_refused fits stop refuses is) = absurd (none stop refuses)
+      value_only within value only none one other (goes_on fits v means rest follows is) =
+          let P : V → Type 0 = λ w. Next w rest in
+          is ∙ ap (after_opening name) (one.only rest (subst P (only v means) follows))
+
+      by_known : length (bytes_in files name) ≤ limit → IsKnown Refuses Means → HasOne (Reads files name limit too_long Refuses Means Next)
+      by_known within (known_refused end refuses only none) = record { answer = after_opening name end; is = is_refused within end refuses refl; only = refused_only within end only none }
+      by_known within (known_value value means only none) =
+          let one = next value means in
+          record { answer = after_opening name one.answer; is = goes_on within value means one.answer one.is refl; only = value_only within value only none one }
+
+      by_size : Decided (length (bytes_in files name) ≤ limit) → HasOne (Reads files name limit too_long Refuses Means Next)
+      by_size (holds within) = by_known within known
+      by_size (fails more) =
+          let above : limit < length (bytes_in files name) = omega arith in
+          record { answer = after_opening name (refused too_long); is = is_too_long above refl; only = long_only above }
+
+-- inputs in range have one plan
+planned_one : (i : Inputs) (label : List ℕ) → IsInRange i → HasOne (IsPlanned i label)
+planned_one i label fine = by_schedule (exists_least i fine)
   where
-    moved : (y : ℤ) (n : ℕ) (w : List ℤ) (y' : ℤ) (n' : ℕ) (w' : List ℤ) → y ≡ y' → n ≡ n' → w ≡ w'
-        → IsWithBattery files asked price y n w other → IsWithBattery files asked price y' n' w' other
-    moved y n w y' n' w' ey en ew with =
-        let A : ℤ → Type 0 = λ k. IsWithBattery files asked price k n w other in
-        let B : ℕ → Type 0 = λ k. IsWithBattery files asked price y' k w other in
-        let C : List ℤ → Type 0 = λ k. IsWithBattery files asked price y' n' k other in
-        subst C ew (subst B en (subst A ey with))
+    no_other : ((s : List ℕ) → IsFeasible i s → ⊥) → (a b : Answer) → IsPlanned i label a → IsPlanned i label b → a ≡ b
+    no_other none a b (no_schedule n is) (no_schedule m is2) = is ∙ sym is2
+    no_other none a b (least s first is) other = absurd (none s first.least.feasible)
+    no_other none a b one (least s first is) = absurd (none s first.least.feasible)
 
--- of one request
-record_answer : (files : Files) (asked : Asked) (one other : Answer) → IsWithRecord files asked one → IsWithRecord files asked other → one ≡ other
-record_answer files asked one other (record_too_long above is) (record_too_long above2 is2) = is ∙ sym is2
-record_answer files asked one other (record_too_long above is) (no_price within none is2) = absurd (omega arith)
-record_answer files asked one other (record_too_long above is) (has_price within price means with) = absurd (omega arith)
-record_answer files asked one other (no_price within none is) (record_too_long above is2) = absurd (omega arith)
-record_answer files asked one other (no_price within none is) (no_price within2 none2 is2) = is ∙ sym is2
-record_answer files asked one other (no_price within none is) (has_price within2 price means with) = absurd (none price means)
-record_answer files asked one other (has_price within price means with) (record_too_long above is2) = absurd (omega arith)
-record_answer files asked one other (has_price within price means with) (no_price within2 none is2) = absurd (none price means)
-record_answer files asked one other (has_price within p means with) (has_price within2 p2 means2 with2) =
-    let P : ℕ → Type 0 = λ price. IsWithReadings files asked price other in
-    readings_answer files asked p one other with (subst P (price_same _ asked.label p2 p means2 means) with2)
+    least_other : (s : List ℕ) → IsFirstLeast i s → (a : Answer) → IsPlanned i label a → a ≡ says verdict.Done (plan_text i label s)
+    least_other s first a (no_schedule none is) = absurd (none s first.least.feasible)
+    least_other s first a (least z second is) = is ∙ ap (λ (w : List ℕ). says verdict.Done (plan_text i label w)) (first_least_same i z s second first)
+
+    by_schedule : ((s : List ℕ) → IsFeasible i s → ⊥) ⊎ ((s : List ℕ) × IsFirstLeast i s) → HasOne (IsPlanned i label)
+    by_schedule (inl none) = record { answer = _; is = no_schedule none refl; only = λ other is. no_other none other _ is (no_schedule none refl) }
+    by_schedule (inr first) = record { answer = _; is = least first.0 first.1 refl; only = least_other first.0 first.1 }
+
+-- a schedule has one bill, or one first break
+billed_one : (i : Inputs) (label schedule : List ℕ) → length schedule ≡ length i.net → HasOne (IsBilled i label schedule)
+billed_one i label schedule long = by_break (break_or_feasible i schedule long)
+  where
+    bill_only : IsFeasible i schedule → (a : Answer) → IsBilled i label schedule a → a ≡ says verdict.Done (bill_text i label (bill_of i schedule))
+    bill_only feasible a (billed also is) = is
+    bill_only feasible a (broken t first is) = absurd (break_excludes i schedule t first feasible)
+
+    break_only : (t : ℕ) → IsFirstBreak i schedule t → (a : Answer) → IsBilled i label schedule a → a ≡ says verdict.NoSchedule (break_text t)
+    break_only t first a (billed feasible is) = absurd (break_excludes i schedule t first feasible)
+    break_only t first a (broken k other is) = is ∙ ap (λ (n : ℕ). says verdict.NoSchedule (break_text n)) (first_break_same i schedule k t other first)
+
+    by_break : IsFeasible i schedule ⊎ ((t : ℕ) × IsFirstBreak i schedule t) → HasOne (IsBilled i label schedule)
+    by_break (inl feasible) = record { answer = _; is = billed feasible refl; only = bill_only feasible }
+    by_break (inr first) = record { answer = _; is = broken first.0 first.1 refl; only = break_only first.0 first.1 }
+
+-- a known answer is one
+said_one : (answer : Answer) → HasOne (λ a. a ≡ answer)
+said_one answer = record { answer = answer; is = refl; only = λ other is. is }
+
+-- the answer to a request is one
+module _ (files : Files) (asked : Asked) where
+  task_one : (price : ℤ) (month : Hourly) (wanted : Wanted) → IsRecord (rows_in files asked.records) asked.label price → IsHourly (rows_in files asked.readings) month
+      → HasOne (IsFor files asked.label price month wanted)
+  task_one price month (plan_with battery) record_is month_is =
+      reads_one files battery (2 ^ 24) LongBattery (RefusesBattery (rows_in files battery)) (IsBatteryFile (rows_in files battery))
+      (λ storage. IsPlanned (hourly_inputs price month storage) asked.label) (battery_known (rows_in files battery))
+      (λ storage means. planned_one (hourly_inputs price month storage) asked.label
+      (hourly_in_range (rows_in files asked.records) asked.label (rows_in files asked.readings) (rows_in files battery) price month storage record_is month_is means))
+  task_one price month wants_metered_bill record_is month_is = said_one _
+  task_one price month (schedule_bill battery schedule) record_is month_is =
+      reads_one files battery (2 ^ 24) LongBattery (RefusesBattery (rows_in files battery)) (IsBatteryFile (rows_in files battery))
+      (λ storage. ReadsSchedule files schedule (hourly_inputs price month storage) (IsBilled (hourly_inputs price month storage) asked.label))
+      (battery_known (rows_in files battery))
+      (λ storage means. reads_one files schedule (2 ^ 24) LongSchedule (RefusesSchedule (hourly_inputs price month storage) (rows_in files schedule))
+      (MeansSchedule (hourly_inputs price month storage) (rows_in files schedule)) (IsBilled (hourly_inputs price month storage) asked.label)
+      (schedule_known (hourly_inputs price month storage) (rows_in files schedule) means.valid)
+      (λ modes is. billed_one (hourly_inputs price month storage) asked.label modes is.1.long))
+
+  request_one : HasOne (IsAnswerTo files asked)
+  request_one =
+      reads_one files asked.records (2 ^ 30) LongRecord (RefusesRecord (rows_in files asked.records) asked.label) (IsRecord (rows_in files asked.records) asked.label)
+      (IsWithPrice files asked) (record_known (rows_in files asked.records) asked.label)
+      (λ price record_is. reads_one files asked.readings (2 ^ 24) LongReadings (RefusesReadings (rows_in files asked.readings)) (IsHourly (rows_in files asked.readings))
+      (λ month. IsFor files asked.label price month asked.wanted) (month_known (rows_in files asked.readings))
+      (λ month month_is. task_one price month asked.wanted record_is month_is))
+
+-- to words and files there is one answer
+pub one_answer : (words : List (List ℕ)) (files : Files) → HasAnswer words files
+one_answer words files = by_request (request_found words)
+  where
+    none_only : ((asked : Asked) → IsRequest words asked → ⊥) → (other : Answer) → IsAnswer words files other → other ≡ refused Words
+    none_only none other (no_request also is) = is
+    none_only none other (request asked is to) = absurd (none asked is)
+
+    asked_only : (asked : Asked) → IsRequest words asked → (one : HasOne (IsAnswerTo files asked)) → (other : Answer) → IsAnswer words files other → other ≡ one.answer
+    asked_only asked is one other (no_request none also) = absurd (none asked is)
+    asked_only asked is one other (request a also to) =
+        let P : Asked → Type 0 = λ r. IsAnswerTo files r other in
+        one.only other (subst P (one_request also is) to)
+
+    by_request : Found (IsRequest words) → HasAnswer words files
+    by_request (nothing none) = record { answer = refused Words; is = no_request none refl; only = none_only none }
+    by_request (found asked is) =
+        let one = request_one files asked in
+        record { answer = one.answer; is = request asked is one.is; only = asked_only asked is one }
 
 -- two answers to the same words and files are one
 pub answer_same : (words : List (List ℕ)) (files : Files) (one other : Answer) → IsAnswer words files one → IsAnswer words files other → one ≡ other
-answer_same words files one other (no_request none is) (no_request none2 is2) = is ∙ sym is2
-answer_same words files one other (no_request none is) (request asked is_request with) = absurd (none asked is_request)
-answer_same words files one other (request asked is_request with) (no_request none is) = absurd (none asked is_request)
-answer_same words files one other (request asked is_request with) (request asked2 is_request2 with2) =
-    let P : Asked → Type 0 = λ a. IsWithRecord files a other in
-    record_answer files asked one other with (subst P (one_request is_request2 is_request) with2)
+answer_same words files one other is is_other =
+    let law = one_answer words files in
+    law.only one is ∙ sym (law.only other is_other)

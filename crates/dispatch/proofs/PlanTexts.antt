@@ -1,27 +1,12 @@
--- The text of a plan, put down line by line.
+-- The lines of a plan's schedule.
 use Rattle.std.proofs.Common.{◌≡◌, ℕ, ℤ, ◌+◌, List, [], ◌∷◌, ◌++◌, Some, refl, ap, ◌∙◌, codes, append_assoc, add-one, slice_get, slice_index}
-use Rattle.std.specs.Fmt.{decimal, signed_decimal}
+use Rattle.std.specs.Fmt.{signed_decimal}
 use Rattle.d_model.specs.declared.mode.Mode.{Mode}
 use Rattle.d_model.specs.Inputs.{Inputs}
 use Rattle.d_model.specs.Flows.{flow_of}
 use Rattle.d_model.specs.Schedules.{level_at}
-use Rattle.dispatch.specs.Text.{line, month_text, money_text, plan_head, start_text, schedule_line, schedule_lines}
+use Rattle.dispatch.specs.Text.{line, start_text, schedule_line, schedule_lines}
 use Rattle.dispatch.specs.PlanLines.{level_line}
-
--- six lines, one after another
-six_lines : (old t1 t2 t3 t4 t5 t6 a b c d e f : List ℕ) → t1 ≡ old ++ a → t2 ≡ t1 ++ b → t3 ≡ t2 ++ c → t4 ≡ t3 ++ d → t5 ≡ t4 ++ e → t6 ≡ t5 ++ f
-    → t6 ≡ old ++ (a ++ (b ++ (c ++ (d ++ (e ++ f)))))
-six_lines old t1 t2 t3 t4 t5 t6 a b c d e f h1 h2 h3 h4 h5 h6 = rw (h6, h5, h4, h3, h2, h1) (simp append_assoc)
-
--- the lines of a head
-pub head_is : (i : Inputs) (label : List ℕ) (bill : ℤ) (old t1 t2 t3 t4 t5 t6 month minutes money : List ℕ) → month ≡ month_text i.year i.number → minutes ≡ decimal i.minutes → money ≡ money_text bill
-    → t1 ≡ old ++ line (codes "dispatch plan") → t2 ≡ t1 ++ line (codes "label " ++ label) → t3 ≡ t2 ++ line (codes "month " ++ month)
-    → t4 ≡ t3 ++ line (codes "minutes " ++ minutes) → t5 ≡ t4 ++ line (codes "verdict least") → t6 ≡ t5 ++ line (codes "bill " ++ money) → t6 ≡ old ++ plan_head i label bill
-head_is i label bill old t1 t2 t3 t4 t5 t6 month minutes money month_is minutes_is money_is h1 h2 h3 h4 h5 h6 =
-    six_lines old t1 t2 t3 t4 t5 t6 (line (codes "dispatch plan")) (line (codes "label " ++ label)) (line (codes "month " ++ month_text i.year i.number))
-    (line (codes "minutes " ++ decimal i.minutes)) (line (codes "verdict least")) (line (codes "bill " ++ money_text bill))
-    h1 h2 (h3 ∙ ap (λ (x : List ℕ). t2 ++ line (codes "month " ++ x)) month_is) (h4 ∙ ap (λ (x : List ℕ). t3 ++ line (codes "minutes " ++ x)) minutes_is)
-    h5 (h6 ∙ ap (λ (x : List ℕ). t5 ++ line (codes "bill " ++ x)) money_is)
 
 -- the parts of an interval's line
 pub level_line_is : (i : Inputs) (t : ℕ) (mode : Mode) (level : ℤ) (old t1 t2 t3 t4 start name numbers : List ℕ) → start ≡ start_text i t → name ≡ mode.name

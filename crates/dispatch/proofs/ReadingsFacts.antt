@@ -1,13 +1,17 @@
 -- The rows of a readings file.
-use Rattle.std.proofs.Common.{◌≡◌, ℕ, ◌+◌, ◌*◌, ℤ, pos, List, length, take, drop, slice_index_or, sym, refl, ap, ◌∙◌, arith, subst}
+use Rattle.std.proofs.Common.{◌≡◌, ℕ, ◌+◌, ◌*◌, ◌^◌, ℤ, pos, List, [], ◌∷◌, get_or, length, take, drop, slice_index_or, sym, refl, ap, ◌∙◌, arith, subst}
 use Rattle.jiff_core.specs.Calendar.{days_in_month}
 use Rattle.std.specs.Str.Parse.{digits_value}
 use Rattle.std.proofs.lemmas.List.{ext_get_or}
 use Rattle.jiff_core.proofs.CalendarLemmas.{days_in_month_bounds}
-use Rattle.dispatch.proofs.Moments.{one_net}
+use Rattle.d_text.proofs.DecimalLaws.{decimal_same, decimal_within}
+use Rattle.d_num.specs.Amount.{IsWithin}
+use Rattle.d_model.specs.Readings.{IsReadings}
+use Rattle.std.proofs.lemmas.List.{get_or_default}
 use Rattle.dispatch.proofs.MonthTexts.{year_value, number_value}
-use Rattle.dispatch.specs.Table.{row_at, cell_in}
-use Rattle.dispatch.specs.ReadingsFile.{IsReadingsFile, IsReadingRow, IsStartText}
+use Rattle.d_table.specs.Table.{row_at, cell_in}
+use Rattle.dispatch.specs.ReadingsFile.{IsReadingsFile, AreReadingRows, IsReadingRow, IsReading}
+use Rattle.d_model.specs.Starts.{IsStartText}
 
 -- the first row behind the header is the start of the month
 pub first_start : (rows : List (List (List ℕ))) (year : ℤ) (number : ℕ) (net : List ℤ) → IsReadingsFile rows year number net
@@ -42,10 +46,11 @@ one_number rows year year' number number' net net' file other =
 -- a row has one reading
 row_net : (row : List (List ℕ)) (year year' : ℤ) (number number' t : ℕ) (net net' : ℤ) → IsReadingRow row year number t net
     → IsReadingRow row year' number' t net' → net ≡ net'
+unfolding IsReading
 row_net row year year' number number' t net net' is other =
     let both = sym is.cells ∙ other.cells in
     let value : is.value ≡ other.value = cc in
-    one_net is.value net net' is.reading (rw value other.reading)
+    decimal_same is.value 0 (10 ^ 9) net net' is.reading (subst (λ (c : List ℕ). IsReading c net') (sym value) other.reading)
 
 -- and one list of readings
 pub one_list : (rows : List (List (List ℕ))) (year year' : ℤ) (number number' : ℕ) (net net' : List ℤ) → IsReadingsFile rows year number net
@@ -54,3 +59,26 @@ one_list rows year year' number number' net net' file other =
     ext_get_or (pos 0) net net' (omega (arith, file.count, other.count))
     (λ t within. row_net (row_at rows (t + 1)) year year' number number' t (slice_index_or net t (pos 0)) (slice_index_or net' t (pos 0))
     (file.readings.each t within) (other.readings.each t (omega (arith, file.count, other.count))))
+
+-- a row of two cells is these two
+pub two_cells : (row : List (List ℕ)) → length row ≡ 2 → row ≡ cell_in row 0 ∷ cell_in row 1 ∷ []
+two_cells [] long = absurd (omega arith)
+two_cells (a ∷ []) long = absurd (omega arith)
+two_cells (a ∷ b ∷ []) long = refl
+two_cells (a ∷ b ∷ c ∷ rest) long = absurd (omega (arith, long))
+
+-- a reading is small
+pub reading_small : (cell : List ℕ) (net : ℤ) → IsReading cell net → IsWithin (10 ^ 9) net
+unfolding IsReading
+reading_small cell net is = decimal_within cell 0 (10 ^ 9) net is
+
+-- the readings of a month's rows are complete
+pub rows_complete : (rows : List (List (List ℕ))) (year : ℤ) (number : ℕ) (net : List ℤ) → AreReadingRows rows year number net → IsReadings year number 60 net
+rows_complete rows year number net are = record {
+  pace = refl;
+  whole = (let whole : length net ≡ days_in_month year number * 24 = are.whole in omega (arith, whole));
+  small = λ t d lt.
+      let row = are.each t lt in
+      let same : get_or net t (pos 0) ≡ get_or net t d = get_or_default net t (pos 0) d lt in
+      subst (λ (z : ℤ). IsWithin (10 ^ 9) z) same (reading_small row.value (get_or net t (pos 0)) row.reading);
+}

@@ -1,7 +1,12 @@
 -- Words are one request, or none.
-use Rattle.std.proofs.Common.{◌≡◌, ℕ, ◌≤◌, List, [], length, slice_index, slice_index_or, sym, ap, ◌∙◌, refl}
-use Rattle.dispatch.specs.Words.{Asked, IsRequest, HasValues, IsValue, IsLabel, words_of}
-use Rattle.dispatch.proofs.Deciding.{Decided, Found, both, opposite, restated, candidate, is_below, at_most, same_number, same_cells, each_item}
+use Rattle.std.proofs.Common.{◌≡◌, ℕ, ◌≤◌, ◌==◌, List, [], length, slice_index, slice_index_or, bytes_eq, cond, codes, sym, ap, ◌∙◌, refl}
+use Rattle.dispatch.specs.Words.{Asked, Wanted, plan_with, metered_bill, schedule_bill, IsRequest, HasValues, HasNames, IsValue, IsLabel, words_of}
+use Rattle.dispatch.proofs.Deciding.{Decided, holds, Found, both, opposite, restated, candidate, is_below, at_most, same_number, same_cells, each_item}
+
+-- what the command and the words behind the first seven want
+wanted_in : List (List ℕ) → Wanted
+wanted_in words = cond (bytes_eq (slice_index_or words 0 []) (codes "plan")) (plan_with (slice_index_or words 8 []))
+    (cond (length words == 7) metered_bill (schedule_bill (slice_index_or words 8 []) (slice_index_or words 10 [])))
 
 -- what the words at their places name
 asked_in : List (List ℕ) → Asked
@@ -9,13 +14,26 @@ asked_in words = record {
   records = slice_index_or words 2 [];
   label = slice_index_or words 4 [];
   readings = slice_index_or words 6 [];
-  battery = slice_index_or words 8 [];
+  wanted = wanted_in words;
 }
 
--- nine words that name this name nothing else
+-- the words that name this name nothing else
 asked_of_words : (asked : Asked) → asked ≡ asked_in (words_of asked)
-unfolding asked_in
-asked_of_words asked = refl
+unfolding asked_in wanted_in
+asked_of_words asked = by_wanted asked.records asked.label asked.readings asked.wanted
+  where
+    made : List ℕ → List ℕ → List ℕ → Wanted → Asked
+    made r l d w = record { records = r; label = l; readings = d; wanted = w }
+
+    by_wanted : (r l d : List ℕ) (w : Wanted) → made r l d w ≡ asked_in (words_of (made r l d w))
+    by_wanted r l d (plan_with battery) = refl
+    by_wanted r l d metered_bill = refl
+    by_wanted r l d (schedule_bill battery schedule) = refl
+
+-- words are one request at most
+pub one_request : {words : List (List ℕ)} {a b : Asked} → IsRequest words a → IsRequest words b → a ≡ b
+one_request {words} {a} {b} one other =
+    asked_of_words a ∙ ap asked_in (sym one.words_are ∙ other.words_are) ∙ sym (asked_of_words b)
 
 -- a word may be a value
 value_decided : (word : List ℕ) → Decided (IsValue word)
@@ -25,13 +43,19 @@ value_decided word = both (is_below 0 (length word)) (opposite (same_number (sli
 label_decided : (word : List ℕ) → Decided (IsLabel word)
 label_decided word = both (at_most (length word) 64) (each_item (λ byte. (33 ≤ byte) × (byte ≤ 126)) (λ byte. both (at_most 33 byte) (at_most byte 126)) word)
 
--- all four values may be ones
+-- the names of the files may be ones
+names_decided : (wanted : Wanted) → Decided (HasNames wanted)
+names_decided (plan_with battery) = value_decided battery
+names_decided metered_bill = holds tt
+names_decided (schedule_bill battery schedule) = both (value_decided battery) (value_decided schedule)
+
+-- all values may be ones
 values_decided : (asked : Asked) → Decided (HasValues asked)
 values_decided asked = restated
-    (λ h. record { records = h.0; label = h.1.0; label_form = h.1.1.0; readings = h.1.1.1.0; battery = h.1.1.1.1 })
-    (λ v. (v.records, (v.label, (v.label_form, (v.readings, v.battery)))))
+    (λ h. record { records = h.0; label = h.1.0; label_form = h.1.1.0; readings = h.1.1.1.0; names = h.1.1.1.1 })
+    (λ v. (v.records, (v.label, (v.label_form, (v.readings, v.names)))))
     (both (value_decided asked.records) (both (value_decided asked.label) (both (label_decided asked.label)
-    (both (value_decided asked.readings) (value_decided asked.battery)))))
+    (both (value_decided asked.readings) (names_decided asked.wanted)))))
 
 -- the words are this request
 request_decided : (words : List (List ℕ)) (asked : Asked) → Decided (IsRequest words asked)

@@ -1,22 +1,21 @@
 -- How a run ends by what it has prepared and printed, over plain scenes.
-use Rattle.std.proofs.Common.{◌≡◌, ℕ, List, [], ◌++◌, Err, refl, ap, subst, ◌∙◌}
+use Rattle.std.proofs.Common.{◌≡◌, ℕ, List, ◌++◌, Err, refl, ap, subst, ◌∙◌}
 use Rattle.d_desk.specs.Front.{IsFront, GainsFront}
 use Rattle.d_desk.specs.Scene.{Scene}
 use Rattle.d_desk.specs.Stages.{PrintsOnly, PrintsFront}
 use Rattle.d_desk.proofs.Fronts.{gains_none, gains_all}
-use Rattle.dispatch.specs.Answer.{Answer, refused}
+use Rattle.dispatch.specs.Answer.{Answer, IsAnswer}
 use Rattle.dispatch.specs.Runs.{IsCutShort}
-use Rattle.dispatch.specs.StageResults.{IsPrepared, StopsOpening, Gives, Prepares}
-use Rattle.dispatch.specs.declared.verdict.Verdict.{Verdict}
-use Rattle.dispatch.specs.declared.fault.Refusal.{Refusal}
+use Rattle.dispatch.specs.Replies.{IsPrepared, StopsOpening, IsGiven, Prepares}
+use Rattle.dispatch.specs.declared.reply.Reply.{Reply}
 use Rattle.dispatch.specs.declared.fault.Fault.{Fault}
 use Rattle.dispatch.specs.declared.fault.Fault.TheVariants.{Refused}
 use Rattle.dispatch.proofs.OneAnswer.{answer_same}
 
 -- what is prepared and printed whole is answered
-pub gives_answer : (words : List (List ℕ)) (x y z : Scene) (verdict : Verdict) (text : List ℕ) → IsPrepared words x y verdict text → PrintsOnly text y z
-    → Gives words x z verdict
-gives_answer words x y z verdict text prepared prints = record {
+pub gives_answer : (words : List (List ℕ)) (x y z : Scene) (reply : Reply) → IsPrepared (IsAnswer words x.files) x y reply → PrintsOnly reply.text.items y z
+    → IsGiven words x z reply.verdict
+gives_answer words x y z reply prepared prints = record {
   answer = prepared.answer;
   is = prepared.is;
   verdict_is = prepared.verdict_is;
@@ -28,9 +27,9 @@ gives_answer words x y z verdict text prepared prints = record {
 }
 
 -- what is prepared and printed in part is cut short
-pub cut_in_print : (words : List (List ℕ)) (x y z : Scene) (verdict : Verdict) (text : List ℕ) → IsPrepared words x y verdict text → PrintsFront text y z
+pub cut_in_print : (words : List (List ℕ)) (x y z : Scene) (reply : Reply) → IsPrepared (IsAnswer words x.files) x y reply → PrintsFront reply.text.items y z
     → IsCutShort words x z
-cut_in_print words x y z verdict text prepared prints = record {
+cut_in_print words x y z reply prepared prints = record {
   printed = λ answer is. let P : Answer → Type 0 = λ a. GainsFront x.printed z.printed a.text in
       subst P (answer_same words x.files prepared.answer answer prepared.is is) printed;
   opened = λ answer is. let P : Answer → Type 0 = λ a. GainsFront x.opened z.opened a.openings in
@@ -46,19 +45,17 @@ cut_in_print words x y z verdict text prepared prints = record {
     }
 
 -- what stops before it is prepared is cut short
-pub cut_in_opening : (words : List (List ℕ)) (x y : Scene) → StopsOpening words x y → IsCutShort words x y
+pub cut_in_opening : (words : List (List ℕ)) (x y : Scene) → StopsOpening (IsAnswer words x.files) x y → IsCutShort words x y
 cut_in_opening words x y stops = record { printed = λ answer is. gains_none answer.text stops.printed; opened = stops.opened; files = stops.files }
 
 -- a run that prepares nothing is cut short
-pub cut_by_fault : (words : List (List ℕ)) (x y : Scene) (fault other : Fault) → fault ≡ other → Prepares words x y (Err fault)
-    → (Prepares words x y (Err other) → StopsOpening words x y) → IsCutShort words x y
+pub cut_by_fault : (words : List (List ℕ)) (x y : Scene) (fault other : Fault) → fault ≡ other → Prepares (IsAnswer words x.files) x y (Err fault)
+    → (Prepares (IsAnswer words x.files) x y (Err other) → StopsOpening (IsAnswer words x.files) x y) → IsCutShort words x y
 cut_by_fault words x y fault other same prepares stops =
-    let P : Fault → Type 0 = λ f. Prepares words x y (Err f) in cut_in_opening words x y (stops (subst P same prepares))
+    let P : Fault → Type 0 = λ f. Prepares (IsAnswer words x.files) x y (Err f) in cut_in_opening words x y (stops (subst P same prepares))
 
 -- what is prepared where a refusal is known by an equation
-pub refusal_known : (words : List (List ℕ)) (x y : Scene) (fault : Fault) (refusal other : Refusal) → fault ≡ Refused refusal → refusal ≡ other
-    → Prepares words x y (Err fault) → IsPrepared words x y (refused other []).verdict (refused other []).text
-refusal_known words x y fault refusal other is same prepares =
-    let P : Fault → Type 0 = λ f. Prepares words x y (Err f) in
-    let Q : Refusal → Type 0 = λ r. IsPrepared words x y (refused r []).verdict (refused r []).text in
-    subst Q same (subst P is prepares)
+pub refusal_known : (words : List (List ℕ)) (x y : Scene) (fault : Fault) (reply : Reply) → fault ≡ Refused reply
+    → Prepares (IsAnswer words x.files) x y (Err fault) → IsPrepared (IsAnswer words x.files) x y reply
+refusal_known words x y fault reply is prepares =
+    let P : Fault → Type 0 = λ f. Prepares (IsAnswer words x.files) x y (Err f) in subst P is prepares

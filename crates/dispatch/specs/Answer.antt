@@ -1,27 +1,39 @@
 -- What the program answers to a list of words, given the files: a verdict, the text that it prints, and the files that it opens.
-use Rattle.std.specs.Prelude.{◌≡◌, ℕ, ◌^◌, ◌<◌, ◌≤◌, ℤ, pos, List, [], ◌∷◌, length, codes}
+-- The files are read one after the other, and the first that is too long or refused decides.
+use Rattle.std.specs.Prelude.{◌≡◌, ◌⊎◌, ℕ, ◌^◌, ◌<◌, ◌≤◌, ◌++◌, ℤ, pos, List, [], ◌∷◌, Option, None, Some, length, codes}
 use Rattle.d_desk.specs.Scene.{Files, Opening, opening, bytes_in}
 use Rattle.d_desk.specs.declared.opened.Direction.TheVariants.{In}
+use Rattle.d_table.specs.Table.{rows_of, row_at, cell_in, IsRectangular}
+use Rattle.d_model.specs.declared.schedule.ScheduleFault.{ScheduleFault}
+use Rattle.d_model.specs.declared.schedule.ScheduleFault.TheVariants.{Shape}
 use Rattle.d_model.specs.Storage.{Storage}
 use Rattle.d_model.specs.Inputs.{Inputs}
-use Rattle.d_model.specs.Schedules.{IsFeasible}
-use Rattle.d_model.specs.Bills.{IsFirstLeast}
-use Rattle.dispatch.specs.Table.{rows_of}
-use Rattle.dispatch.specs.Words.{Asked, IsRequest}
-use Rattle.dispatch.specs.Record.{IsRecord}
-use Rattle.dispatch.specs.ReadingsFile.{IsReadingsFile}
+use Rattle.d_model.specs.Schedules.{IsFeasible, IsFirstBreak}
+use Rattle.d_model.specs.Bills.{IsFirstLeast, bill_of, metered_bill}
+use Rattle.d_model.specs.ScheduleFile.{IsScheduleFile, IsScheduleFault}
+use Rattle.dispatch.specs.Words.{Asked, Wanted, IsRequest, plan_with, metered_bill as wants_metered_bill, schedule_bill}
+use Rattle.dispatch.specs.Record.{IsRecord, IsRecordFault}
+use Rattle.dispatch.specs.ReadingsFile.{Hourly, IsHourly}
 use Rattle.dispatch.specs.BatteryFile.{IsBatteryFile}
-use Rattle.dispatch.specs.Text.{line, plan_text}
+use Rattle.dispatch.specs.Text.{line, plan_text, bill_text, break_text, shown, behind_blank, schedule_fault_text}
 use Rattle.dispatch.specs.declared.verdict.Verdict.{Verdict}
 use Rattle.dispatch.specs.declared.verdict.Verdict.TheVariants as verdict
 use Rattle.dispatch.specs.declared.fault.Refusal.{Refusal}
-use Rattle.dispatch.specs.declared.fault.Refusal.TheVariants.{Words, LongRecord, Record, LongReadings, Readings, LongBattery, Battery}
+use Rattle.dispatch.specs.declared.fault.Refusal.TheVariants.{Words, LongRecord, Record, LongReadings, Readings, LongBattery, Battery, LongSchedule, Schedule}
 
 -- a verdict, the text that is printed, and the files that are opened, in order
 pub record Answer : Type 0 where
   pub verdict : Verdict
   pub text : List ℕ
   pub openings : List Opening
+
+-- an answer that opens nothing
+abbrev pub says : Verdict → List ℕ → Answer
+says v text = record { verdict = v; text = text; openings = [] }
+
+-- an answer after this file was opened for reading
+abbrev pub after_opening : List ℕ → Answer → Answer
+after_opening name answer = record { verdict = answer.verdict; text = answer.text; openings = opening In name ∷ answer.openings }
 
 -- the verdict of a refusal
 abbrev pub refusal_verdict : Refusal → Verdict
@@ -32,6 +44,8 @@ refusal_verdict LongReadings = verdict.Readings
 refusal_verdict Readings = verdict.Readings
 refusal_verdict LongBattery = verdict.Battery
 refusal_verdict Battery = verdict.Battery
+refusal_verdict LongSchedule = verdict.Battery
+refusal_verdict (Schedule fault) = verdict.Battery
 
 -- the text of a refusal
 abbrev pub refusal_text : Refusal → List ℕ
@@ -42,75 +56,114 @@ refusal_text LongReadings = line (codes "refused readings 0 TooLong")
 refusal_text Readings = line (codes "refused readings 23 NotYet")
 refusal_text LongBattery = line (codes "refused battery 0 TooLong")
 refusal_text Battery = line (codes "refused battery 23 NotYet")
-
--- the files that are opened for reading: the record file alone
-abbrev pub opens_record : Asked → List Opening
-opens_record asked = opening In asked.records ∷ []
-
--- up to the readings
-abbrev pub opens_readings : Asked → List Opening
-opens_readings asked = opening In asked.records ∷ opening In asked.readings ∷ []
-
--- all three
-abbrev pub opens_all : Asked → List Opening
-opens_all asked = opening In asked.records ∷ opening In asked.readings ∷ opening In asked.battery ∷ []
+refusal_text LongSchedule = line (codes "refused schedule 0 TooLong")
+refusal_text (Schedule fault) = line (codes "refused schedule " ++ schedule_fault_text fault)
 
 -- the answer to what is refused
-abbrev pub refused : Refusal → List Opening → Answer
-refused refusal openings = record { verdict = refusal_verdict refusal; text = refusal_text refusal; openings = openings }
+abbrev pub refused : Refusal → Answer
+refused refusal = says (refusal_verdict refusal) (refusal_text refusal)
 
--- the record file has this price under the label
-abbrev pub MeansPrice : Files → Asked → ℕ → Type 0
-MeansPrice files asked price = IsRecord (rows_of (bytes_in files asked.records)) asked.label price
+-- the text of a record's refusal, by the column that it names: its name and its cell as they are shown, or none
+abbrev pub record_text : List (List (List ℕ)) → Option ℕ → List ℕ
+record_text rows None = refusal_text Record
+record_text rows (Some column) = line (codes "refused record 23 NotYet " ++ shown (cell_in (row_at rows 0) column) ++ codes " 0" ++ behind_blank (cell_in (row_at rows 1) column))
 
--- the readings file is this month's
-abbrev pub MeansMonth : Files → Asked → ℤ → ℕ → List ℤ → Type 0
-MeansMonth files asked year number net = IsReadingsFile (rows_of (bytes_in files asked.readings)) year number net
+-- the part of a file in an answer: it is opened, and above its limit or refused by its rows it ends the answer; else its value goes on
+pub data Reads {V : Type 0} (files : Files) (name : List ℕ) (limit : ℕ) (too_long : Refusal) (Refuses : Answer → Type 0) (Means : V → Type 0)
+    (Next : V → Answer → Type 0) (answer : Answer) : Type 0 where
+  is_too_long : limit < length (bytes_in files name) → answer ≡ after_opening name (refused too_long)
+      → Reads files name limit too_long Refuses Means Next answer
+  is_refused : length (bytes_in files name) ≤ limit → (end : Answer) → Refuses end → answer ≡ after_opening name end
+      → Reads files name limit too_long Refuses Means Next answer
+  goes_on : length (bytes_in files name) ≤ limit → (value : V) → Means value → (rest : Answer) → Next value rest → answer ≡ after_opening name rest
+      → Reads files name limit too_long Refuses Means Next answer
 
--- the battery file is this battery
-abbrev pub MeansBattery : Files → Asked → Storage → Type 0
-MeansBattery files asked storage = IsBatteryFile (rows_of (bytes_in files asked.battery)) storage
+-- a file's rows
+abbrev pub rows_in : Files → List ℕ → List (List (List ℕ))
+rows_in files name = rows_of (bytes_in files name)
 
--- what a plan is made for: the price, a month of hourly readings and a battery
-abbrev pub hourly_inputs : ℕ → ℤ → ℕ → List ℤ → Storage → Inputs
-hourly_inputs price year number net storage = record { year = year; number = number; minutes = 60; net = net; price = pos price; storage = storage }
+-- a record is refused with its column's text
+abbrev pub RefusesRecord : List (List (List ℕ)) → List ℕ → Answer → Type 0
+RefusesRecord rows label end = (column : Option ℕ) × IsRecordFault rows label column × (end ≡ says verdict.Record (record_text rows column))
 
--- the answer where the plan is made for these inputs: that no schedule is feasible, or the first least schedule
-pub data IsPlanned (inputs : Inputs) (asked : Asked) (answer : Answer) : Type 0 where
-  no_schedule : ((schedule : List ℕ) → IsFeasible inputs schedule → ⊥)
-      → answer ≡ record { verdict = verdict.NoSchedule; text = line (codes "no schedule"); openings = opens_all asked } → IsPlanned inputs asked answer
-  least : (schedule : List ℕ) → IsFirstLeast inputs schedule
-      → answer ≡ record { verdict = verdict.Done; text = plan_text inputs asked.label schedule; openings = opens_all asked } → IsPlanned inputs asked answer
+-- readings are refused where they are no month
+abbrev pub RefusesReadings : List (List (List ℕ)) → Answer → Type 0
+RefusesReadings rows end = ((month : Hourly) → IsHourly rows month → ⊥) × (end ≡ refused Readings)
 
--- the answer where record and readings are known: by the battery file, which has at most 2^24 bytes
-pub data IsWithBattery (files : Files) (asked : Asked) (price : ℕ) (year : ℤ) (number : ℕ) (net : List ℤ) (answer : Answer) : Type 0 where
-  battery_too_long : 2 ^ 24 < length (bytes_in files asked.battery) → answer ≡ refused LongBattery (opens_all asked)
-      → IsWithBattery files asked price year number net answer
-  no_battery : length (bytes_in files asked.battery) ≤ 2 ^ 24 → ((storage : Storage) → MeansBattery files asked storage → ⊥)
-      → answer ≡ refused Battery (opens_all asked) → IsWithBattery files asked price year number net answer
-  has_battery : length (bytes_in files asked.battery) ≤ 2 ^ 24 → (storage : Storage) → MeansBattery files asked storage
-      → IsPlanned (hourly_inputs price year number net storage) asked answer → IsWithBattery files asked price year number net answer
+-- a battery is refused where the rows are none
+abbrev pub RefusesBattery : List (List (List ℕ)) → Answer → Type 0
+RefusesBattery rows end = ((storage : Storage) → IsBatteryFile rows storage → ⊥) × (end ≡ refused Battery)
 
--- the answer where the record is known: by the readings file, which has at most 2^24 bytes
-pub data IsWithReadings (files : Files) (asked : Asked) (price : ℕ) (answer : Answer) : Type 0 where
-  readings_too_long : 2 ^ 24 < length (bytes_in files asked.readings) → answer ≡ refused LongReadings (opens_readings asked)
-      → IsWithReadings files asked price answer
-  no_month : length (bytes_in files asked.readings) ≤ 2 ^ 24
-      → ((year : ℤ) (number : ℕ) (net : List ℤ) → MeansMonth files asked year number net → ⊥)
-      → answer ≡ refused Readings (opens_readings asked) → IsWithReadings files asked price answer
-  has_month : length (bytes_in files asked.readings) ≤ 2 ^ 24 → (year : ℤ) (number : ℕ) (net : List ℤ) → MeansMonth files asked year number net
-      → IsWithBattery files asked price year number net answer → IsWithReadings files asked price answer
+-- a schedule is refused by its rows' lengths, or by the first check that fails
+abbrev pub RefusesSchedule : Inputs → List (List (List ℕ)) → Answer → Type 0
+RefusesSchedule i rows end = ((IsRectangular rows → ⊥) × (end ≡ refused (Schedule Shape)))
+    ⊎ ((fault : ScheduleFault) × IsRectangular rows × IsScheduleFault i rows fault × (end ≡ refused (Schedule fault)))
 
--- the answer to a request: by the record file first, which has at most 2^30 bytes
-pub data IsWithRecord (files : Files) (asked : Asked) (answer : Answer) : Type 0 where
-  record_too_long : 2 ^ 30 < length (bytes_in files asked.records) → answer ≡ refused LongRecord (opens_record asked)
-      → IsWithRecord files asked answer
-  no_price : length (bytes_in files asked.records) ≤ 2 ^ 30 → ((price : ℕ) → MeansPrice files asked price → ⊥)
-      → answer ≡ refused Record (opens_record asked) → IsWithRecord files asked answer
-  has_price : length (bytes_in files asked.records) ≤ 2 ^ 30 → (price : ℕ) → MeansPrice files asked price
-      → IsWithReadings files asked price answer → IsWithRecord files asked answer
+-- rows of one length are a schedule
+abbrev pub MeansSchedule : Inputs → List (List (List ℕ)) → List ℕ → Type 0
+MeansSchedule i rows schedule = IsRectangular rows × IsScheduleFile i rows schedule
+
+-- the record file comes first; it has at most 2^30 bytes
+abbrev pub ReadsRecord : Files → List ℕ → List ℕ → (ℤ → Answer → Type 0) → Answer → Type 0
+ReadsRecord files name label Next answer =
+    Reads files name (2 ^ 30) LongRecord (RefusesRecord (rows_in files name) label) (IsRecord (rows_in files name) label) Next answer
+
+-- the readings file has at most 2^24 bytes
+abbrev pub ReadsReadings : Files → List ℕ → (Hourly → Answer → Type 0) → Answer → Type 0
+ReadsReadings files name Next answer =
+    Reads files name (2 ^ 24) LongReadings (RefusesReadings (rows_in files name)) (IsHourly (rows_in files name)) Next answer
+
+-- the battery file has at most 2^24 bytes
+abbrev pub ReadsBattery : Files → List ℕ → (Storage → Answer → Type 0) → Answer → Type 0
+ReadsBattery files name Next answer =
+    Reads files name (2 ^ 24) LongBattery (RefusesBattery (rows_in files name)) (IsBatteryFile (rows_in files name)) Next answer
+
+-- the schedule file has at most 2^24 bytes
+abbrev pub ReadsSchedule : Files → List ℕ → Inputs → (List ℕ → Answer → Type 0) → Answer → Type 0
+ReadsSchedule files name i Next answer =
+    Reads files name (2 ^ 24) LongSchedule (RefusesSchedule i (rows_in files name)) (MeansSchedule i (rows_in files name)) Next answer
+
+-- what is planned or billed: the price, a month of hourly readings and a battery
+abbrev pub hourly_inputs : ℤ → Hourly → Storage → Inputs
+hourly_inputs price month storage =
+    record { year = month.year; number = month.number; minutes = 60; net = month.net; price = price; storage = storage }
+
+-- no battery: no level but 0, and one mode that changes nothing
+abbrev pub no_storage : Storage
+no_storage = record { floor = 0; capacity = 0; start = 0; end = 0; max_import = pos (10 ^ 10); max_export = pos (10 ^ 10); modes = record { name = codes "idle"; change = pos 0; grid = pos 0; low = 0; high = 255 } ∷ [] }
+
+-- the answer to a request for a plan: the first least schedule, or that no schedule is feasible
+pub data IsPlanned (i : Inputs) (label : List ℕ) (answer : Answer) : Type 0 where
+  no_schedule : ((schedule : List ℕ) → IsFeasible i schedule → ⊥) → answer ≡ says verdict.NoSchedule (line (codes "no schedule")) → IsPlanned i label answer
+  least : (schedule : List ℕ) → IsFirstLeast i schedule → answer ≡ says verdict.Done (plan_text i label schedule) → IsPlanned i label answer
+
+-- the answer to a request for the bill of a schedule: the bill, or the first interval in which it breaks a rule
+pub data IsBilled (i : Inputs) (label schedule : List ℕ) (answer : Answer) : Type 0 where
+  billed : IsFeasible i schedule → answer ≡ says verdict.Done (bill_text i label (bill_of i schedule)) → IsBilled i label schedule answer
+  broken : (t : ℕ) → IsFirstBreak i schedule t → answer ≡ says verdict.NoSchedule (break_text t) → IsBilled i label schedule answer
+
+-- the answer to a request for the bill of the readings alone
+abbrev pub IsMeteredBill : Inputs → List ℕ → Answer → Type 0
+IsMeteredBill i label answer = answer ≡ says verdict.Done (bill_text i label (metered_bill i))
+
+-- the answer where price and month are known
+abbrev pub IsFor : Files → List ℕ → ℤ → Hourly → Wanted → Answer → Type 0
+IsFor files label price month (plan_with battery) answer =
+    ReadsBattery files battery (λ storage. IsPlanned (hourly_inputs price month storage) label) answer
+IsFor files label price month wants_metered_bill answer = IsMeteredBill (hourly_inputs price month no_storage) label answer
+IsFor files label price month (schedule_bill battery schedule) answer =
+    ReadsBattery files battery (λ storage.
+    ReadsSchedule files schedule (hourly_inputs price month storage) (IsBilled (hourly_inputs price month storage) label)) answer
+
+-- the answer where the price is known
+abbrev pub IsWithPrice : Files → Asked → ℤ → Answer → Type 0
+IsWithPrice files asked price answer = ReadsReadings files asked.readings (λ month. IsFor files asked.label price month asked.wanted) answer
+
+-- the answer to a request
+abbrev pub IsAnswerTo : Files → Asked → Answer → Type 0
+IsAnswerTo files asked answer = ReadsRecord files asked.records asked.label (IsWithPrice files asked) answer
 
 -- the answer to a list of words: they are no request, and nothing is opened; or they are, and the files decide
 pub data IsAnswer (words : List (List ℕ)) (files : Files) (answer : Answer) : Type 0 where
-  no_request : ((asked : Asked) → IsRequest words asked → ⊥) → answer ≡ refused Words [] → IsAnswer words files answer
-  request : (asked : Asked) → IsRequest words asked → IsWithRecord files asked answer → IsAnswer words files answer
+  no_request : ((asked : Asked) → IsRequest words asked → ⊥) → answer ≡ refused Words → IsAnswer words files answer
+  request : (asked : Asked) → IsRequest words asked → IsAnswerTo files asked answer → IsAnswer words files answer

@@ -7,8 +7,8 @@ use Rattle.dispatch.specs.declared.entry.Setting.{Setting}
 use Rattle.dispatch.specs.declared.entry.Setting.TheVariants.{Capacity, Floor, Start, End, MaxImport, MaxExport}
 use Rattle.dispatch.specs.declared.entry.Entry.{Entry}
 use Rattle.dispatch.specs.declared.entry.Entry.TheVariants.{Sets, Has}
-use Rattle.dispatch.specs.Table.{row_at, cell_in, IsHeader}
-use Rattle.dispatch.specs.Number.{IsWholeText}
+use Rattle.d_table.specs.Table.{row_at, cell_in, IsHeader}
+use Rattle.d_text.specs.Fault.{IsDecimalOf}
 
 -- the name of a setting in the file
 abbrev pub setting_name : Setting → List ℕ
@@ -36,16 +36,20 @@ is_name_byte b = (nat_le 65 b && nat_le b 90) || (nat_le 97 b && nat_le b 122) |
 abbrev pub IsModeName : List ℕ → Type 0
 IsModeName name = (1 ≤ length name) × (length name ≤ 32) × All (λ b. IsTrue (is_name_byte b)) name
 
+-- a whole number of at most 10^10 in size, written as a decimal
+unfoldable pub IsWhole : List ℕ → ℤ → Type 0
+IsWhole cell number = IsDecimalOf cell 0 (10 ^ 10) number
+
 -- the level that a cell gives; an empty one gives the level that stands for an absent one
 abbrev pub IsLevelText : ℕ → List ℕ → ℕ → Type 0
-IsLevelText absent cell level = ((cell ≡ []) × (level ≡ absent)) ⊎ IsWholeText cell (pos level)
+IsLevelText absent cell level = ((cell ≡ []) × (level ≡ absent)) ⊎ IsWhole cell (pos level)
 
 -- the row sets a number: its name and its number alone are read
 pub record IsSetRow (row : List (List ℕ)) (setting : Setting) (value : ℤ) : Type 0 where
   pub six : length row ≡ 6
   pub kind : cell_in row 0 ≡ codes "set"
   pub name : cell_in row 1 ≡ setting_name setting
-  pub number : IsWholeText (cell_in row 2) value
+  pub number : IsWhole (cell_in row 2) value
   pub range : IsUpTo (setting_limit setting) value
 
 -- the row has a mode: its name, its change in levels, what it adds to the net reading in Wh, and the levels in which it may begin
@@ -54,8 +58,8 @@ pub record IsModeRow (row : List (List ℕ)) (mode : Mode) : Type 0 where
   pub kind : cell_in row 0 ≡ codes "mode"
   pub name : cell_in row 1 ≡ mode.name
   pub form : IsModeName mode.name
-  pub change : IsWholeText (cell_in row 2) mode.change
-  pub grid : IsWholeText (cell_in row 3) mode.grid
+  pub change : IsWhole (cell_in row 2) mode.change
+  pub grid : IsWhole (cell_in row 3) mode.grid
   pub low : IsLevelText 0 (cell_in row 4) mode.low
   pub high : IsLevelText 255 (cell_in row 5) mode.high
   pub range : IsMode mode

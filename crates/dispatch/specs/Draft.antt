@@ -7,7 +7,7 @@ use Rattle.dispatch.specs.declared.entry.Setting.{Setting}
 use Rattle.dispatch.specs.declared.entry.Setting.TheVariants.{Capacity, Floor, Start, End, MaxImport, MaxExport}
 use Rattle.dispatch.specs.declared.entry.Entry.{Entry}
 use Rattle.dispatch.specs.declared.entry.Entry.TheVariants.{Sets, Has}
-use Rattle.dispatch.specs.Table.{row_at}
+use Rattle.d_table.specs.Table.{row_at}
 use Rattle.dispatch.specs.BatteryFile.{IsEntry, setting_limit, modes_of, values_of, value_of}
 
 -- the entries are those of the first rows, so many with the header

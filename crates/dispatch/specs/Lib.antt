@@ -1,5 +1,3 @@
-pub mod Table
-pub mod Number
 pub mod Words
 pub mod Asking
 pub mod Record
@@ -7,11 +5,10 @@ pub mod Text
 pub mod ReadingsFile
 pub mod BatteryFile
 pub mod Answer
-pub mod Replies
 pub mod Runs
-pub mod PlainFront
+pub mod Replies
 pub mod PlanWays
-pub mod StageResults
 pub mod PlanLines
 pub mod Law
 pub mod Draft
+pub mod Faults

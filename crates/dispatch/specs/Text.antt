@@ -1,57 +1,23 @@
 -- The texts that are printed. All forms are our own; dates and times are those of ISO 8601.
-use Rattle.std.specs.Prelude.{ℕ, zero, suc, ◌+◌, ◌-◌, ◌*◌, ◌/◌, ◌%◌, ◌^◌, ◌==◌, ℤ, pos, negsuc, unsigned_abs, List, [], ◌∷◌, ◌++◌, length, take, drop, replicate, slice_get, slice_index, option_map, unwrap_or, codes}
+use Rattle.std.specs.Prelude.{ℕ, zero, suc, ◌+◌, ◌&&◌, nat_le, ℤ, List, [], ◌∷◌, ◌++◌, length, map, take, slice_get, slice_index, option_map, unwrap_or, codes, if◌then◌else◌}
 use Rattle.std.specs.Fmt.{decimal, signed_decimal}
+use Rattle.d_text.specs.Text.{money_text}
 use Rattle.d_model.specs.declared.mode.Mode.{Mode}
+use Rattle.d_model.specs.declared.schedule.ScheduleFault.{ScheduleFault}
+use Rattle.d_model.specs.declared.schedule.ScheduleFault.TheVariants.{Shape, Count, Start, Mode as NoMode}
 use Rattle.d_model.specs.Inputs.{Inputs}
 use Rattle.d_model.specs.Flows.{flow_of}
 use Rattle.d_model.specs.Schedules.{level_at}
 use Rattle.d_model.specs.Bills.{bill_of}
-use Rattle.dispatch.specs.Table.{without_back}
-
--- a number in decimal, with zeros in front up to a width
-abbrev pub zero_padded : ℕ → ℕ → List ℕ
-zero_padded width number = replicate (width - length (decimal number)) 48 ++ decimal number
-
--- decimals without the zeros at their end, but two at least
-abbrev pub shortened : List ℕ → List ℕ
-shortened decimals = take 2 decimals ++ without_back (λ digit. digit == 48) (drop 2 decimals)
-
--- so many units of 10^-21 USD in USD
-abbrev pub dollars : ℕ → List ℕ
-dollars units = decimal (units / 10 ^ 21) ++ 46 ∷ shortened (zero_padded 21 (units % 10 ^ 21))
-
--- money in USD, exactly: a minus where it is below 0, the whole USD, a point and at least two decimals
-abbrev pub money_text : ℤ → List ℕ
-money_text (pos units) = dollars units
-money_text (negsuc units) = 45 ∷ dollars (suc units)
-
--- YYYY-MM
-abbrev pub month_text : ℤ → ℕ → List ℕ
-month_text year number = zero_padded 4 (unsigned_abs year) ++ 45 ∷ zero_padded 2 number
-
--- the day of the month on which interval t starts, from 1, and the minute of that day
-abbrev pub start_day : ℕ → ℕ → ℕ
-start_day minutes t = t * minutes / 1440 + 1
-
--- the minute of that day, from 0
-abbrev pub start_minute : ℕ → ℕ → ℕ
-start_minute minutes t = t * minutes % 1440
-
--- YYYY-MM-DD
-abbrev pub date_text : ℤ → ℕ → ℕ → List ℕ
-date_text year number day = month_text year number ++ 45 ∷ zero_padded 2 day
-
--- HH:MM
-abbrev pub time_text : ℕ → List ℕ
-time_text minute = zero_padded 2 (minute / 60) ++ 58 ∷ zero_padded 2 (minute % 60)
-
--- the start of interval t of the month, as YYYY-MM-DDTHH:MM
-abbrev pub start_text : Inputs → ℕ → List ℕ
-start_text i t = date_text i.year i.number (start_day i.minutes t) ++ 84 ∷ time_text (start_minute i.minutes t)
+use Rattle.d_model.specs.Starts.{month_text, date_text, time_text, start_day, start_minute}
 
 -- a line ends with one line feed
 abbrev pub line : List ℕ → List ℕ
 line text = text ++ 10 ∷ []
+
+-- the start of interval t of the month, as YYYY-MM-DDTHH:MM
+abbrev pub start_text : Inputs → ℕ → List ℕ
+start_text i t = date_text i.year i.number (start_day i.minutes t) ++ 84 ∷ time_text (start_minute i.minutes t)
 
 -- what an interval does: its start, the mode's name, the level after it and what flows through the meter in Wh
 abbrev pub mode_line : Inputs → List ℕ → ℕ → Mode → List ℕ
@@ -66,11 +32,43 @@ unfoldable pub schedule_lines : Inputs → List ℕ → ℕ → List ℕ
 schedule_lines i s zero = []
 schedule_lines i s (suc n) = schedule_lines i s n ++ schedule_line i s n
 
--- the lines of a plan before its schedule
-abbrev pub plan_head : Inputs → List ℕ → ℤ → List ℕ
-plan_head i label bill = line (codes "dispatch plan") ++ (line (codes "label " ++ label) ++ (line (codes "month " ++ month_text i.year i.number)
-    ++ (line (codes "minutes " ++ decimal i.minutes) ++ (line (codes "verdict least") ++ line (codes "bill " ++ money_text bill)))))
+-- the lines that say what is answered: the command, the record's label, the month and the length of an interval
+abbrev pub title_lines : List ℕ → Inputs → List ℕ → List ℕ
+title_lines command i label = line (codes "dispatch " ++ command) ++ (line (codes "label " ++ label)
+    ++ (line (codes "month " ++ month_text i.year i.number) ++ line (codes "minutes " ++ decimal i.minutes)))
+
+-- the line of a bill
+abbrev pub bill_line : ℤ → List ℕ
+bill_line bill = line (codes "bill " ++ money_text bill)
 
 -- the text of a least plan
 abbrev pub plan_text : Inputs → List ℕ → List ℕ → List ℕ
-plan_text i label s = plan_head i label (bill_of i s) ++ schedule_lines i s (length i.net)
+plan_text i label s = title_lines (codes "plan") i label ++ (line (codes "verdict least") ++ (bill_line (bill_of i s) ++ schedule_lines i s (length i.net)))
+
+-- the text of a bill
+abbrev pub bill_text : Inputs → List ℕ → ℤ → List ℕ
+bill_text i label bill = title_lines (codes "bill") i label ++ bill_line bill
+
+-- the text where a schedule breaks a rule first in this interval
+abbrev pub break_text : ℕ → List ℕ
+break_text t = line (codes "not feasible at interval " ++ decimal t)
+
+-- a byte of a file as it is shown: as it is where it is printable ASCII, else a question mark
+abbrev pub shown_byte : ℕ → ℕ
+shown_byte byte = if nat_le 32 byte && nat_le byte 126 then byte else 63
+
+-- a name or a cell of a file as it is shown: 60 bytes of it at most
+abbrev pub shown : List ℕ → List ℕ
+shown cell = map shown_byte (take 60 cell)
+
+-- a cell behind the other parts of a line: a blank and the cell, or nothing where it is empty
+abbrev pub behind_blank : List ℕ → List ℕ
+behind_blank [] = []
+behind_blank (byte ∷ rest) = 32 ∷ shown (byte ∷ rest)
+
+-- why a schedule file is refused
+abbrev pub schedule_fault_text : ScheduleFault → List ℕ
+schedule_fault_text Shape = codes "1 Shape"
+schedule_fault_text (Count have need) = codes "2 Count " ++ decimal have ++ 32 ∷ decimal need
+schedule_fault_text (Start row) = codes "3 Start " ++ decimal row
+schedule_fault_text (NoMode row) = codes "4 Mode " ++ decimal row

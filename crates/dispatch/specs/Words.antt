@@ -1,25 +1,35 @@
--- The words of a request to plan. The options stand in one order.
-use Rattle.std.specs.Prelude.{◌≡◌, ◌≢◌, ℕ, ◌<◌, ◌≤◌, List, [], ◌∷◌, length, slice_index, slice_index_or, All, codes}
+-- The words of a request: to plan, or for a bill. The options stand in one order.
+use Rattle.std.specs.Prelude.{◌≡◌, ◌≢◌, ⊤, ℕ, ◌<◌, ◌≤◌, List, [], ◌∷◌, length, slice_index, All, codes}
 
--- what the words name: the files, and the label of the tariff's record
+-- what is wanted: a plan with the battery of this file, the bill of the readings alone, or the bill of the schedule of the second
+-- file with the battery of the first
+pub data Wanted : Type 0 where
+  plan_with : List ℕ → Wanted
+  metered_bill : Wanted
+  schedule_bill : List ℕ → List ℕ → Wanted
+
+-- what the words name: the file of tariff records, the label of the record, the file of readings, and what is wanted
 pub record Asked : Type 0 where
   pub records : List ℕ
   pub label : List ℕ
   pub readings : List ℕ
-  pub battery : List ℕ
+  pub wanted : Wanted
 
--- the nine words
+-- the command's name
+abbrev pub command_of : Wanted → List ℕ
+command_of (plan_with battery) = codes "plan"
+command_of metered_bill = codes "bill"
+command_of (schedule_bill battery schedule) = codes "bill"
+
+-- the options after those that both commands have
+abbrev pub options_of : Wanted → List (List ℕ)
+options_of (plan_with battery) = codes "--battery" ∷ battery ∷ []
+options_of metered_bill = []
+options_of (schedule_bill battery schedule) = codes "--battery" ∷ battery ∷ codes "--schedule" ∷ schedule ∷ []
+
+-- the words of a request
 abbrev pub words_of : Asked → List (List ℕ)
-words_of a = codes "plan" ∷ codes "--records" ∷ a.records ∷ codes "--label" ∷ a.label
-    ∷ codes "--readings" ∷ a.readings ∷ codes "--battery" ∷ a.battery ∷ []
-
--- the command and the options stand at their places
-pub record HasOptions (words : List (List ℕ)) : Type 0 where
-  pub plan : slice_index_or words 0 [] ≡ codes "plan"
-  pub records : slice_index_or words 1 [] ≡ codes "--records"
-  pub label : slice_index_or words 3 [] ≡ codes "--label"
-  pub readings : slice_index_or words 5 [] ≡ codes "--readings"
-  pub battery : slice_index_or words 7 [] ≡ codes "--battery"
+words_of a = command_of a.wanted ∷ codes "--records" ∷ a.records ∷ codes "--label" ∷ a.label ∷ codes "--readings" ∷ a.readings ∷ options_of a.wanted
 
 -- a value isn't empty and doesn't begin with a minus
 abbrev pub IsValue : List ℕ → Type 0
@@ -29,15 +39,21 @@ IsValue word = (0 < length word) × (slice_index word 0 ≢ 45)
 abbrev pub IsLabel : List ℕ → Type 0
 IsLabel word = (length word ≤ 64) × All (λ byte. (33 ≤ byte) × (byte ≤ 126)) word
 
+-- the names of the files may be values
+abbrev pub HasNames : Wanted → Type 0
+HasNames (plan_with battery) = IsValue battery
+HasNames metered_bill = ⊤
+HasNames (schedule_bill battery schedule) = IsValue battery × IsValue schedule
+
 -- each value may be one, and the label is one
 pub record HasValues (asked : Asked) : Type 0 where
   pub records : IsValue asked.records
   pub label : IsValue asked.label
   pub label_form : IsLabel asked.label
   pub readings : IsValue asked.readings
-  pub battery : IsValue asked.battery
+  pub names : HasNames asked.wanted
 
--- the words ask for this plan
+-- the words ask for this
 pub record IsRequest (words : List (List ℕ)) (asked : Asked) : Type 0 where
   pub words_are : words ≡ words_of asked
   pub values : HasValues asked

@@ -4,15 +4,15 @@ ghost use Rattle.std.specs.Prelude.{◌≡◌, ℕ, ◌<◌, List, length, IfOk,
 ghost use Rattle.d_model.specs.Storage.{Storage};
 ghost use Rattle.d_model.specs.Shown.{storage_of};
 ghost use Rattle.dispatch.specs.declared.entry.Entry.{Entry};
-ghost use Rattle.dispatch.specs.Table.{rows_of};
+ghost use Rattle.d_table.specs.Table.{rows_of, row_at};
 ghost use Rattle.dispatch.specs.BatteryFile.{IsBatteryFile};
 ghost use Rattle.dispatch.specs.Draft.{AreEntries, IsUsable, IsDraftOf};
 
 use crate::draft::Draft;
 use crate::entry::read_entry;
 use crate::fault::ReadFault;
-use crate::table::{Table, read_table};
 use d_model::Battery;
+use d_table::{Table, read_table};
 use std::alloc::Global;
 
 /// The battery in the file, or Refused exactly where the file isn't the header and rows that make a battery.
@@ -41,12 +41,13 @@ fn battery_in(alloc: Global, table: &Table) -> Result<Battery, ReadFault>
 
 /// What the rows below the header say.
 fn read_draft(alloc: Global, table: &Table) -> Result<Draft, ReadFault>
-    requires { 0 < length table.now }
+    requires some { 0 < length table.now }
+    requires columns { length (row_at table.now 0) ≡ 6 }
     ensures refused { IsErrOf result ReadFault.Refused → (entries : List Entry) → AreEntries table.now (length table.now) entries → IsUsable entries → ⊥ }
     ensures draft { IfOk result (λ draft. (entries : List Entry) × AreEntries table.now (length table.now) entries × IsDraftOf entries draft) }
 {
     let mut draft = Draft::new(alloc);
-    for row in 1..table.len() {
+    for row in 0..table.rows() {
         let Some(entry) = read_entry(table, row) else {
             return Err(ReadFault::Refused);
         };

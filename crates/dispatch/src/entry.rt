@@ -1,17 +1,16 @@
 //! What a row of a battery file says.
 
-ghost use Rattle.std.specs.Prelude.{◌≡◌, ◌↔◌, ℕ, ◌^◌, ◌<◌, ◌≤◌, ℤ, pos, ◌≤ℤ◌, length, codes, IsTrue, IfNone, IfSome};
+ghost use Rattle.std.specs.Prelude.{◌≡◌, ◌↔◌, ℕ, ◌+◌, ◌^◌, ◌<◌, ◌≤◌, ℤ, pos, ◌≤ℤ◌, length, codes, IsTrue, IfNone, IfSome};
 ghost use Rattle.d_num.specs.Amount.{IsWithin};
-ghost use Rattle.dispatch.specs.Number.{IsWholeText};
-ghost use Rattle.dispatch.specs.Table.{row_at, cell_in};
-ghost use Rattle.dispatch.specs.BatteryFile.{IsEntry, IsLevelText, IsModeName, setting_name, setting_limit};
+ghost use Rattle.d_table.specs.Table.{row_at, cell_in};
+ghost use Rattle.dispatch.specs.BatteryFile.{IsWhole, IsEntry, IsLevelText, IsModeName, setting_name, setting_limit};
 ghost use Rattle.dispatch.specs.declared.entry.Entry.{Entry};
 ghost use Rattle.dispatch.specs.declared.entry.Setting.{Setting};
 
 use crate::number::read_whole;
-use crate::table::{Table, is_word};
 use d_model::{Mode, Name};
 use d_num::Wh;
+use d_table::Table;
 
 /// A number of the battery that a row may set.
 #[derive(Clone, Copy, Debug, PartialEq, Eq)]
@@ -35,13 +34,12 @@ pub enum Entry {
 
 /// What a row says, or None exactly where it says nothing that a row may say.
 pub fn read_entry(table: &Table, row: usize) -> Option<Entry>
-    requires { row < length table.now }
-    ensures none { IfNone result ((entry : Entry) → IsEntry (row_at table.now row) entry → ⊥) }
-    ensures some { IfSome result (IsEntry (row_at table.now row)) }
+    requires row { row + 1 < length table.now }
+    requires columns { length (row_at table.now 0) ≡ 6 }
+    requires cells { length (row_at table.now (row + 1)) ≡ 6 }
+    ensures none { IfNone result ((entry : Entry) → IsEntry (row_at table.now (row + 1)) entry → ⊥) }
+    ensures some { IfSome result (IsEntry (row_at table.now (row + 1))) }
 {
-    if table.width(row) != 6 {
-        return None;
-    }
     let kind = table.cell(row, 0);
     if is_word(kind, "set") {
         read_setting(table, row)
@@ -54,21 +52,22 @@ pub fn read_entry(table: &Table, row: usize) -> Option<Entry>
 
 /// The number that a row sets.
 fn read_setting(table: &Table, row: usize) -> Option<Entry>
-    requires row { row < length table.now }
-    requires six { length (row_at table.now row) ≡ 6 }
-    requires kind { cell_in (row_at table.now row) 0 ≡ codes "set" }
-    ensures none { IfNone result ((entry : Entry) → IsEntry (row_at table.now row) entry → ⊥) }
-    ensures some { IfSome result (IsEntry (row_at table.now row)) }
+    requires row { row + 1 < length table.now }
+    requires columns { length (row_at table.now 0) ≡ 6 }
+    requires cells { length (row_at table.now (row + 1)) ≡ 6 }
+    requires kind { cell_in (row_at table.now (row + 1)) 0 ≡ codes "set" }
+    ensures none { IfNone result ((entry : Entry) → IsEntry (row_at table.now (row + 1)) entry → ⊥) }
+    ensures some { IfSome result (IsEntry (row_at table.now (row + 1))) }
 {
     let setting = setting_of(table.cell(row, 1))?;
     let value = read_between(table.cell(row, 2), 0, setting.limit())?;
     Some(Entry::Sets(setting, value))
 }
 
-/// The number from the one to the other whose whole text the cell is.
+/// The whole number from the one to the other that the cell writes.
 fn read_between(cell: &[u8], least: i64, most: i64) -> Option<i64>
-    ensures none { IfNone result ((number : ℤ) → IsWholeText cell.now number → least ≤ℤ number → number ≤ℤ most → ⊥) }
-    ensures some { IfSome result (λ number. IsWholeText cell.now number × (least ≤ℤ number) × (number ≤ℤ most)) }
+    ensures none { IfNone result ((number : ℤ) → IsWhole cell.now number → least ≤ℤ number → number ≤ℤ most → ⊥) }
+    ensures some { IfSome result (λ number. IsWhole cell.now number × (least ≤ℤ number) × (number ≤ℤ most)) }
 {
     let value = read_whole(cell)?;
     if value >= least && value <= most {
@@ -114,11 +113,12 @@ impl Setting {
 
 /// The mode of a row.
 fn read_mode(table: &Table, row: usize) -> Option<Entry>
-    requires row { row < length table.now }
-    requires six { length (row_at table.now row) ≡ 6 }
-    requires kind { cell_in (row_at table.now row) 0 ≡ codes "mode" }
-    ensures none { IfNone result ((entry : Entry) → IsEntry (row_at table.now row) entry → ⊥) }
-    ensures some { IfSome result (IsEntry (row_at table.now row)) }
+    requires row { row + 1 < length table.now }
+    requires columns { length (row_at table.now 0) ≡ 6 }
+    requires cells { length (row_at table.now (row + 1)) ≡ 6 }
+    requires kind { cell_in (row_at table.now (row + 1)) 0 ≡ codes "mode" }
+    ensures none { IfNone result ((entry : Entry) → IsEntry (row_at table.now (row + 1)) entry → ⊥) }
+    ensures some { IfSome result (IsEntry (row_at table.now (row + 1))) }
 {
     let name = read_name(table.cell(row, 1))?;
     let change = read_change(table.cell(row, 2))?;
@@ -151,8 +151,8 @@ fn read_name(cell: &[u8]) -> Option<Name>
 
 /// A mode's change in levels.
 fn read_change(cell: &[u8]) -> Option<i16>
-    ensures none { IfNone result ((change : ℤ) → IsWholeText cell.now change → IsWithin 255 change → ⊥) }
-    ensures some { IfSome result (λ change. IsWholeText cell.now change × IsWithin 255 change) }
+    ensures none { IfNone result ((change : ℤ) → IsWhole cell.now change → IsWithin 255 change → ⊥) }
+    ensures some { IfSome result (λ change. IsWhole cell.now change × IsWithin 255 change) }
 {
     let change = read_between(cell, -255, 255)?;
     Some(change as i16)
@@ -160,8 +160,8 @@ fn read_change(cell: &[u8]) -> Option<i16>
 
 /// What a mode adds to the net reading.
 fn read_grid(cell: &[u8]) -> Option<Wh>
-    ensures none { IfNone result ((grid : ℤ) → IsWholeText cell.now grid → IsWithin (10 ^ 9) grid → ⊥) }
-    ensures some { IfSome result (λ grid. IsWholeText cell.now grid × IsWithin (10 ^ 9) grid) }
+    ensures none { IfNone result ((grid : ℤ) → IsWhole cell.now grid → IsWithin (10 ^ 9) grid → ⊥) }
+    ensures some { IfSome result (λ grid. IsWhole cell.now grid × IsWithin (10 ^ 9) grid) }
 {
     let grid = read_between(cell, -1_000_000_000, 1_000_000_000)?;
     Wh::new(grid)
@@ -186,4 +186,11 @@ fn is_mode_name(name: &[u8]) -> bool
     !name.is_empty()
         && name.len() <= 32
         && name.iter().all(|byte| byte.is_ascii_alphanumeric() || *byte == b'_' || *byte == b'-')
+}
+
+/// Whether the cell is this word, exactly.
+fn is_word(cell: &[u8], word: &str) -> bool
+    ensures { IsTrue result ↔ (cell.now ≡ word.now) }
+{
+    cell == word.as_bytes()
 }

@@ -1,13 +1,15 @@
-//! The dispatcher: plans a building's battery for one month and prints the plan with its exact bill.
+//! The dispatcher: plans a building's battery for one month and prints the plan with its exact bill, or the bill alone.
 #![tactic(auto)]
 
 mod answer;
 mod battery;
+mod bill;
 mod draft;
 mod entry;
 mod fault;
 mod law;
 mod least;
+mod lines;
 mod number;
 mod plan;
 #[cfg(test)]
@@ -15,7 +17,8 @@ mod reader_tests;
 mod readings;
 mod real;
 mod record;
-mod table;
+mod reply;
+mod schedule;
 #[cfg(test)]
 mod tests;
 mod text;

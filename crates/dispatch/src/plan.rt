@@ -8,25 +8,21 @@ ghost use Rattle.d_model.specs.Flows.{flow_of};
 ghost use Rattle.d_model.specs.Schedules.{IsFeasible};
 ghost use Rattle.d_model.specs.Bills.{bill_of};
 ghost use Rattle.dispatch.specs.Replies.{IsReply};
-ghost use Rattle.dispatch.specs.Text.{line, plan_head, schedule_lines};
+ghost use Rattle.dispatch.specs.Answer.{IsPlanned};
+ghost use Rattle.dispatch.specs.Text.{schedule_lines};
 ghost use Rattle.dispatch.specs.Text as spec;
 ghost use Rattle.dispatch.specs.PlanLines.{level_line};
 
 use crate::least::least_schedule;
-use crate::text::{date_text, money_text, month_text, time_text};
+use crate::lines::{put_bill, put_line, put_title};
+use crate::reply::Reply;
+use crate::text::{date_text, time_text};
 use crate::verdict::Verdict;
 use d_model::{Battery, Meter, Mode, Problem, Tally};
 use d_num::{Money, NoMemory, Rate};
 use std::alloc::{AllocError, Global};
 
 const MINUTES_PER_DAY: u32 = 1440;
-
-/// A verdict and the text that is printed with it.
-#[derive(Drop)]
-pub struct Reply {
-    pub verdict: Verdict,
-    pub text: Vec<u8>,
-}
 
 /// The plan of least bill, or that no schedule is feasible.
 pub fn plan(
@@ -36,7 +32,7 @@ pub fn plan(
     meter: &Meter,
     battery: &Battery,
 ) -> Result<Reply, NoMemory>
-    ensures { IfOk result (IsReply (plain_of price meter.now battery.now) label.now) }
+    ensures { IfOk result (IsReply (IsPlanned (plain_of price meter.now battery.now) label.now)) }
 {
     let problem = Problem::plain(alloc, price, meter, battery)?;
     match least_schedule(alloc, &problem)? {
@@ -68,9 +64,10 @@ fn plan_text(
     requires { IsFeasible (inputs_of problem.now) schedule.now }
     ensures { IfOk result (λ text. text.items ≡ spec.plan_text (inputs_of problem.now) label.now schedule.now) }
 {
-    let bill = bill(problem, schedule);
     let mut text = Vec::new(alloc);
-    put_head(alloc, &mut text, label, problem, bill)?;
+    put_title(alloc, &mut text, "plan", label, problem)?;
+    put_line(&mut text, "verdict least", "")?;
+    put_bill(&mut text, bill(problem, schedule))?;
     put_schedule(alloc, &mut text, problem, schedule)?;
     Ok(text)
 }
@@ -85,37 +82,6 @@ fn bill(problem: &Problem, schedule: &[u8]) -> Money
         Ok(()) => problem.bill(&tally),
         Err(_) => unreachable!(),
     }
-}
-
-/// The lines of a plan before its schedule.
-fn put_head(
-    alloc: Global,
-    text: &mut Vec<u8>,
-    label: &str,
-    problem: &Problem,
-    bill: Money,
-) -> Result<(), NoMemory>
-    ensures { OnOk result (text.new.items ≡ text.old.items ++ plan_head (inputs_of problem.now) label.now bill) }
-{
-    let month = month_text(alloc, problem.month())?;
-    let minutes = format!(in alloc; "{}", problem.minutes())?;
-    let bill = money_text(alloc, bill)?;
-    put_line(text, "dispatch plan", "")?;
-    put_line(text, "label ", label)?;
-    put_line(text, "month ", month.as_str())?;
-    put_line(text, "minutes ", minutes.as_str())?;
-    put_line(text, "verdict least", "")?;
-    put_line(text, "bill ", bill.as_str())
-}
-
-/// A line of a word and a value.
-fn put_line(text: &mut Vec<u8>, word: &str, value: &str) -> Result<(), NoMemory>
-    ensures { OnOk result (text.new.items ≡ text.old.items ++ line (word.now ++ value.now)) }
-{
-    text.extend_from_slice(word.as_bytes())?;
-    text.extend_from_slice(value.as_bytes())?;
-    text.push(b'\n')?;
-    Ok(())
 }
 
 /// The lines of a schedule, one an interval.

@@ -11,7 +11,7 @@ const RATE: &str = "label,energyratestructure/period0/tier0rate\n";
 #[test]
 fn reads_records(rt: HostRuntime) -> Result<(), Fail> {
     let alloc = rt.alloc();
-    let cases: [(&str, &str, Option<i128>); 28] = [
+    let cases: [(&str, &str, Option<i128>); 31] = [
         ("", "L,0.10\n", Some(100_000_000_000_000_000)),
         ("", "L,0.10", Some(100_000_000_000_000_000)),
         ("", "L,0.10\r\n", Some(100_000_000_000_000_000)),
@@ -36,12 +36,15 @@ fn reads_records(rt: HostRuntime) -> Result<(), Fail> {
         ("", "L,1000.000000000000000001\n", None),
         ("", "L,0.0000000000000000001\n", None),
         ("", "L,10000.0\n", None),
-        ("", "L,.5\n", None),
-        ("", "L,5.\n", None),
-        ("", "L,5\n", None),
-        ("", "L,-0.10\n", None),
-        ("", "L,+0.10\n", None),
-        ("", "L,1e-1\n", None),
+        ("", "L,.5\n", Some(500_000_000_000_000_000)),
+        ("", "L,5.\n", Some(5_000_000_000_000_000_000)),
+        ("", "L,5\n", Some(5_000_000_000_000_000_000)),
+        ("", "L,-0.10\n", Some(-100_000_000_000_000_000)),
+        ("", "L,+0.10\n", Some(100_000_000_000_000_000)),
+        ("", "L,1e-1\n", Some(100_000_000_000_000_000)),
+        ("", "L,-1000\n", Some(-1_000_000_000_000_000_000_000)),
+        ("", "L,-1000.1\n", None),
+        ("", "L,0.1.0\n", None),
         ("", "L,\n", None),
         ("", "M,0.10\n", None),
         ("", "l,0.10\n", None),
@@ -116,7 +119,7 @@ fn february(
 #[test]
 fn reads_readings(rt: HostRuntime) -> Result<(), Fail> {
     let alloc = rt.alloc();
-    let cases: [(&str, &str, usize, &str, bool); 30] = [
+    let cases: [(&str, &str, usize, &str, bool); 33] = [
         ("start,net_wh", "\n", 672, "", true),
         ("start,net_wh", "\r\n", 672, "", true),
         ("START, Net_Wh", "\n", 672, "", true),
@@ -138,11 +141,20 @@ fn reads_readings(rt: HostRuntime) -> Result<(), Fail> {
             "2025-02-01T05:00,1000000001",
             false,
         ),
-        ("start,net_wh", "\n", 5, "2025-02-01T05:00,-1", false),
-        ("start,net_wh", "\n", 5, "2025-02-01T05:00,-0", false),
-        ("start,net_wh", "\n", 5, "2025-02-01T05:00,+5", false),
-        ("start,net_wh", "\n", 5, "2025-02-01T05:00,05", false),
-        ("start,net_wh", "\n", 5, "2025-02-01T05:00,5.0", false),
+        ("start,net_wh", "\n", 5, "2025-02-01T05:00,-1", true),
+        ("start,net_wh", "\n", 5, "2025-02-01T05:00,-0", true),
+        ("start,net_wh", "\n", 5, "2025-02-01T05:00,+5", true),
+        ("start,net_wh", "\n", 5, "2025-02-01T05:00,05", true),
+        ("start,net_wh", "\n", 5, "2025-02-01T05:00,5.0", true),
+        ("start,net_wh", "\n", 5, "2025-02-01T05:00,1e3", true),
+        ("start,net_wh", "\n", 5, "2025-02-01T05:00,5.5", false),
+        (
+            "start,net_wh",
+            "\n",
+            5,
+            "2025-02-01T05:00,-1000000001",
+            false,
+        ),
         ("start,net_wh", "\n", 5, "2025-02-01T05:00,", false),
         (
             "start,net_wh",
@@ -179,7 +191,7 @@ fn reads_readings(rt: HostRuntime) -> Result<(), Fail> {
 #[test]
 fn reads_batteries(rt: HostRuntime) -> Result<(), Fail> {
     let alloc = rt.alloc();
-    let cases: [(&str, bool); 44] = [
+    let cases: [(&str, bool); 45] = [
         ("set,capacity,0,,,\nmode,idle,0,0,,\n", true),
         ("set,capacity,255,,,\nmode,idle,0,0,,", true),
         ("mode,idle,0,0,,\nset,capacity,4,,,\n", true),
@@ -198,9 +210,10 @@ fn reads_batteries(rt: HostRuntime) -> Result<(), Fail> {
         ),
         ("set,capacity,256,,,\nmode,idle,0,0,,\n", false),
         ("set,capacity,-1,,,\nmode,idle,0,0,,\n", false),
-        ("set,capacity,04,,,\nmode,idle,0,0,,\n", false),
-        ("set,capacity,+4,,,\nmode,idle,0,0,,\n", false),
-        ("set,capacity,4.0,,,\nmode,idle,0,0,,\n", false),
+        ("set,capacity,04,,,\nmode,idle,0,0,,\n", true),
+        ("set,capacity,+4,,,\nmode,idle,0,0,,\n", true),
+        ("set,capacity,4.0,,,\nmode,idle,0,0,,\n", true),
+        ("set,capacity,4.5,,,\nmode,idle,0,0,,\n", false),
         ("set,capacity,,,,\nmode,idle,0,0,,\n", false),
         ("set,Capacity,4,,,\nmode,idle,0,0,,\n", false),
         ("set,level,4,,,\nmode,idle,0,0,,\n", false),
@@ -259,7 +272,7 @@ fn reads_batteries(rt: HostRuntime) -> Result<(), Fail> {
         ("set,capacity,4,,,\nmode,idle,0,0,256,\n", false),
         ("set,capacity,4,,,\nmode,idle,0,0,-1,\n", false),
         ("set,capacity,4,,,\nmode,idle,0,0,3,2\n", false),
-        ("set,capacity,4,,,\nmode,idle,-0,0,,\n", false),
+        ("set,capacity,4,,,\nmode,idle,-0,0,,\n", true),
         ("set,capacity,4,,\nmode,idle,0,0,,\n", false),
         ("set,capacity,4,,,,\nmode,idle,0,0,,\n", false),
         ("", false),

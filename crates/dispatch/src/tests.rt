@@ -126,6 +126,127 @@ fn a_long_file_is_told_as_such(rt: HostRuntime) -> Result<(), Fail> {
     Ok(())
 }
 
+const BILL: [&str; 7] = [
+    "bill",
+    "--records",
+    "tariff",
+    "--label",
+    "L",
+    "--readings",
+    "readings",
+];
+
+#[test]
+fn bills_the_readings_alone(rt: HostRuntime) -> Result<(), Fail> {
+    let alloc = rt.alloc();
+    let mut desk = desk(alloc, BATTERY)?;
+    let words = words(alloc, BILL.as_slice())?;
+    assert_eq!(rt; run(alloc, words.as_slice(), &mut desk), Status::Done);
+    assert_eq!(rt;
+        desk.printed_bytes(),
+        b"dispatch bill\nlabel L\nmonth 2025-02\nminutes 60\nbill 67.20\n".as_slice()
+    );
+    assert_eq!(rt; desk.openings().len(), 2);
+    Ok(())
+}
+
+/// A schedule of February 2025 that idles but in one hour, with rows left out at its end.
+fn schedule(alloc: Global, hour: u32, mode: &str, count: u32) -> Result<String, Fail> {
+    let mut text = String::from_str(alloc, "start,mode\n")?;
+    for place in 0..count {
+        let day = place / 24 + 1;
+        let clock = place % 24;
+        let name = if place == hour { mode } else { "idle" };
+        write!(&mut text, "2025-02-{day:02} {clock:02}:00:00,{name}\n")?;
+    }
+    Ok(text)
+}
+
+const SHIFTS: &str =
+    "kind,name,change,grid_wh,low,high\nset,capacity,4,,,\nset,start,0,,,\nset,end,0,,,\nmode,idle,0,0,,\nmode,charge,1,1000,,\nmode,discharge,-1,-1000,,\n";
+
+#[test]
+fn bills_a_schedule_or_says_what_is_wrong(rt: HostRuntime) -> Result<(), Fail> {
+    let alloc = rt.alloc();
+    let mut list = words(alloc, BILL.as_slice())?;
+    for word in ["--battery", "battery", "--schedule", "schedule"] {
+        list.push(String::from_str(alloc, word)?)?;
+    }
+    let cases: [(u32, &str, u32, Status, &str); 5] = [
+        (
+            5,
+            "charge",
+            672,
+            Status::Done,
+            "dispatch bill\nlabel L\nmonth 2025-02\nminutes 60\nbill 67.30\n",
+        ),
+        (
+            0,
+            "discharge",
+            672,
+            Status::NoSchedule,
+            "not feasible at interval 0\n",
+        ),
+        (
+            671,
+            "rest",
+            672,
+            Status::Battery,
+            "refused schedule 4 Mode 671\n",
+        ),
+        (
+            0,
+            "idle",
+            671,
+            Status::Battery,
+            "refused schedule 2 Count 671 672\n",
+        ),
+        (
+            0,
+            "idle,idle",
+            672,
+            Status::Battery,
+            "refused schedule 1 Shape\n",
+        ),
+    ];
+    for (hour, mode, count, status, printed) in cases {
+        let mut desk = desk(alloc, SHIFTS)?;
+        let text = schedule(alloc, hour, mode, count)?;
+        desk.put_file("schedule", text.as_str().as_bytes())?;
+        assert_eq!(rt; run(alloc, list.as_slice(), &mut desk), status, "of {mode}");
+        assert_eq!(rt; desk.printed_bytes(), printed.as_bytes());
+        assert_eq!(rt; desk.openings().len(), 4);
+    }
+    Ok(())
+}
+
+#[test]
+fn a_record_is_refused_by_its_column(rt: HostRuntime) -> Result<(), Fail> {
+    let alloc = rt.alloc();
+    let words = words(alloc, BILL.as_slice())?;
+    let cases = [
+        (
+            "label,energyratestructure/period0/tier0rate,n\u{e9}w\nL,0.10,\u{e9}\n",
+            "refused record 23 NotYet n??w 0 ??\n",
+        ),
+        (
+            "label,energyratestructure/period0/tier0rate\nL,\n",
+            "refused record 23 NotYet energyratestructure/period0/tier0rate 0\n",
+        ),
+        (
+            "label,energyratestructure/period0/tier0rate\nM,0.10\n",
+            "refused record 23 NotYet none 0\n",
+        ),
+    ];
+    for (text, printed) in cases {
+        let mut desk = desk(alloc, BATTERY)?;
+        desk.put_file("tariff", text.as_bytes())?;
+        assert_eq!(rt; run(alloc, words.as_slice(), &mut desk), Status::Record);
+        assert_eq!(rt; desk.printed_bytes(), printed.as_bytes());
+    }
+    Ok(())
+}
+
 #[test]
 fn plans_the_example_over_real_files(rt: HostRuntime) -> Result<(), Fail> {
     let alloc = rt.alloc();

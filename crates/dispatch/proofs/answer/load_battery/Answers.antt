@@ -1,21 +1,20 @@
-use Rattle.std.proofs.Common.{◌∙◌, ap, inr, Err, sym, subst, refl, List, ℕ}
-use Rattle.dispatch.specs.BatteryFile.{IsBatteryFile}
-use Rattle.dispatch.specs.Table.{rows_of}
-use Rattle.dispatch.specs.declared.fault.Refusal.TheVariants.{Battery}
+use Rattle.std.proofs.Common.{◌≡◌, ◌^◌, ◌∙◌, ap, Err}
+use Rattle.d_table.specs.Table.{rows_of}
 use Rattle.d_model.specs.declared.battery.Battery.{Battery as Stored}
-use Rattle.dispatch.specs.Asking.{asked_of}
-use Rattle.dispatch.specs.StageResults.{GivesBattery}
-use Rattle.dispatch.proofs.StageFacts.{read_failed}
+use Rattle.dispatch.specs.Answer.{refused, rows_in, RefusesBattery}
+use Rattle.dispatch.specs.declared.fault.ReadFault.TheVariants.{Refused}
+use Rattle.dispatch.specs.declared.fault.Refusal.TheVariants.{Battery, LongBattery}
+use Rattle.dispatch.specs.Replies.{HasValue}
+use Rattle.d_model.specs.Shown.{storage_of}
+use Rattle.dispatch.specs.BatteryFile.{IsBatteryFile}
+use Rattle.dispatch.proofs.StageFacts.{stage_refused, ends_weaker}
 use Rattle.dispatch.proofs.answer.load_battery.Goals as goal
 
 pub returns-clause-told : goal.returns-clause-told
 returns-clause-told g c t =
+    let files = (g.D.Desk.scene c.args.desk.now).files in
     let loaded = c.in_ok-bytes.ensures.told t in
-    rw c.refused.ensures (read_failed Stored c.in-Err.fault Battery _ (GivesBattery (g.D.Desk.scene c.args.desk.now).files (asked_of c.args.request.now)) _ _ _ loaded.0
-    (λ refused. inr (record {
-      refusal_is = refl;
-      within = loaded.1.within;
-      nothing = λ storage means.
-          let P : List ℕ → Type 0 = λ bytes. IsBatteryFile (rows_of bytes) storage in
-          c.in-Err.ensures.refused (ap Err refused) storage (subst P (sym (c.as_slice.ensures.value ∙ loaded.1.bytes_are)) means);
-    })))
+    stage_refused {T = Stored} files c.args.name.now (2 ^ 24) LongBattery c.as_slice.result.now (HasValue {T = Stored} files c.args.name.now (2 ^ 24) (λ battery. IsBatteryFile (rows_in files c.args.name.now) (storage_of battery))) (λ bytes. RefusesBattery (rows_of bytes)) _ _ c.refused.result loaded.0
+    (c.as_slice.ensures.value ∙ loaded.1.bytes_are) loaded.1.within
+    (ends_weaker (λ end. (c.in-Err.fault ≡ Refused) × (end ≡ refused Battery)) (RefusesBattery (rows_of c.as_slice.result.now)) c.refused.result
+    (λ end h. (λ storage means. c.in-Err.ensures.refused (ap Err h.0) storage means, h.1)) c.refused.ensures)

@@ -1,21 +1,18 @@
-use Rattle.std.proofs.Common.{◌∙◌, ap, inr, Err, sym, subst, refl, List, ℕ}
-use Rattle.dispatch.specs.ReadingsFile.{IsReadingsFile}
-use Rattle.dispatch.specs.Table.{rows_of}
-use Rattle.dispatch.specs.declared.fault.Refusal.TheVariants.{Readings}
+use Rattle.std.proofs.Common.{◌≡◌, ◌^◌, ◌∙◌, ap, Err}
+use Rattle.d_table.specs.Table.{rows_of}
 use Rattle.d_model.specs.declared.meter.Meter.{Meter}
-use Rattle.dispatch.specs.Asking.{asked_of}
-use Rattle.dispatch.specs.StageResults.{GivesMonth}
-use Rattle.dispatch.proofs.StageFacts.{read_failed}
+use Rattle.dispatch.specs.Answer.{refused, rows_in, RefusesReadings}
+use Rattle.dispatch.specs.declared.fault.ReadFault.TheVariants.{Refused}
+use Rattle.dispatch.specs.declared.fault.Refusal.TheVariants.{Readings, LongReadings}
+use Rattle.dispatch.specs.Replies.{HasValue, IsMeterOf}
+use Rattle.dispatch.proofs.StageFacts.{stage_refused, ends_weaker}
 use Rattle.dispatch.proofs.answer.load_readings.Goals as goal
 
 pub returns-clause-told : goal.returns-clause-told
 returns-clause-told g c t =
+    let files = (g.D.Desk.scene c.args.desk.now).files in
     let loaded = c.in_ok-bytes.ensures.told t in
-    rw c.refused.ensures (read_failed Meter c.in-Err.fault Readings _ (GivesMonth (g.D.Desk.scene c.args.desk.now).files (asked_of c.args.request.now)) _ _ _ loaded.0
-    (λ refused. inr (record {
-      refusal_is = refl;
-      within = loaded.1.within;
-      nothing = λ year number net means.
-          let P : List ℕ → Type 0 = λ bytes. IsReadingsFile (rows_of bytes) year number net in
-          c.in-Err.ensures.refused (ap Err refused) year number net (subst P (sym (c.as_slice.ensures.value ∙ loaded.1.bytes_are)) means);
-    })))
+    stage_refused {T = Meter} files c.args.name.now (2 ^ 24) LongReadings c.as_slice.result.now (HasValue {T = Meter} files c.args.name.now (2 ^ 24) (IsMeterOf (rows_in files c.args.name.now))) (λ bytes. RefusesReadings (rows_of bytes)) _ _ c.refused.result loaded.0
+    (c.as_slice.ensures.value ∙ loaded.1.bytes_are) loaded.1.within
+    (ends_weaker (λ end. (c.in-Err.fault ≡ Refused) × (end ≡ refused Readings)) (RefusesReadings (rows_of c.as_slice.result.now)) c.refused.result
+    (λ end h. (λ month means. c.in-Err.ensures.refused (ap Err h.0) month.year month.number month.net means, h.1)) c.refused.ensures)

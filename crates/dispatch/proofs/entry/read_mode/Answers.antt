@@ -1,5 +1,5 @@
-use Rattle.std.proofs.Common.{rules, ◌≤◌}
-use Rattle.dispatch.specs.Table.{row_at}
+use Rattle.std.proofs.Common.{◌+◌}
+use Rattle.d_table.specs.Table.{row_at}
 use Rattle.dispatch.proofs.NoValues.{IfNone_since}
 use Rattle.dispatch.proofs.EntryFacts.{low_none, high_none, order_none}
 use Rattle.dispatch.proofs.entry.read_mode.Goals as goal
@@ -7,16 +7,14 @@ use Rattle.dispatch.proofs.entry.read_mode.Goals as goal
 pub returns-in_err-low-clause-none : goal.returns-in_err-low-clause-none
 returns-in_err-low-clause-none c =
     IfNone_since c.from_residual-in_err-low.result
-    (low_none (row_at c.args.table.now c.args.row) c.cell-4.result.now c.requires.kind c.cell-4.ensures c.in_err-low.ensures.none)
+    (low_none (row_at c.args.table.now (c.args.row + 1)) c.cell-4.result.now c.requires.kind c.cell-4.ensures c.in_err-low.ensures.none)
 
 pub returns-in_err-high-clause-none : goal.returns-in_err-high-clause-none
 returns-in_err-high-clause-none c =
     IfNone_since c.from_residual-in_err-high.result
-    (high_none (row_at c.args.table.now c.args.row) c.cell-5.result.now c.requires.kind c.cell-5.ensures c.in_err-high.ensures.none)
+    (high_none (row_at c.args.table.now (c.args.row + 1)) c.cell-5.result.now c.requires.kind c.cell-5.ensures c.in_err-high.ensures.none)
 
 pub returns-then-low-high-clause-none : goal.returns-then-low-high-clause-none
 returns-then-low-high-clause-none c =
-    let low : c.in_ok-low.low ≤ 255 = search rules in
-    let high : c.in_ok-high.high ≤ 255 = search rules in
-    order_none (row_at c.args.table.now c.args.row) c.cell-4.result.now c.cell-5.result.now c.in_ok-low.low c.in_ok-high.high c.requires.kind
-    c.cell-4.ensures c.cell-5.ensures low high c.in_ok-low.ensures.some c.in_ok-high.ensures.some c.if-low-high.true
+    order_none (row_at c.args.table.now (c.args.row + 1)) c.cell-4.result.now c.cell-5.result.now c.in_ok-low.low c.in_ok-high.high c.requires.kind
+    c.cell-4.ensures c.cell-5.ensures c.in_ok-low.ensures.some c.in_ok-high.ensures.some c.if-low-high.true

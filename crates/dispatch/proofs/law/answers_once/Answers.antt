@@ -1,4 +1,4 @@
-use Rattle.dispatch.proofs.AnswerFound.{one_answer}
+use Rattle.dispatch.proofs.OneAnswer.{one_answer}
 use Rattle.dispatch.proofs.law.answers_once.Goals as goal
 
 pub returns : goal.returns

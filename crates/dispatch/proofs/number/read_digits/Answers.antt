@@ -1,5 +1,5 @@
 use Rattle.std.proofs.Common.{arith}
-use Rattle.dispatch.proofs.PriceTexts.{IsUtf8-digits, digits_none}
+use Rattle.dispatch.proofs.DigitTexts.{IsUtf8-digits, digits_none}
 use Rattle.dispatch.proofs.number.read_digits.Goals as goal
 
 pub returns-in_default-clause-none : goal.returns-in_default-clause-none

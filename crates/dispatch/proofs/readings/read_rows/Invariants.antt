@@ -1,5 +1,5 @@
 use Rattle.std.proofs.Common.{◌≡◌, ◌+◌, ◌<◌, ℕ, pos, length, slice_index_or}
-use Rattle.dispatch.specs.Table.{row_at}
+use Rattle.d_table.specs.Table.{row_at}
 use Rattle.dispatch.specs.ReadingsFile.{IsReadingRow}
 use Rattle.dispatch.proofs.readings.read_rows.Given as goal
 

@@ -2,7 +2,7 @@ use Rattle.std.proofs.Common.{◌≡◌, ◌++◌, ◌∷◌, List, ℕ, ◌∙�
 use Rattle.std.specs.Fmt.{styled_decimal}
 use Rattle.std.proofs.lemmas.Int.{to_z-of_z}
 use Rattle.std.proofs.lemmas.Result.{IfOk-weaker}
-use Rattle.dispatch.specs.Text.{zero_padded}
+use Rattle.d_text.specs.Text.{zero_padded}
 use Rattle.dispatch.proofs.PrintFacts.{hole-zero_padded}
 use Rattle.dispatch.proofs.text.month_text.Goals as goal
 
