@@ -1,0 +1,136 @@
+//! Months, weekends and schedules against calendars made by others.
+
+use crate::{Month, Schedule};
+use std::process::Abort;
+
+#[test]
+fn months_have_their_days(rt: HostRuntime) {
+    let plain = [31, 28, 31, 30, 31, 30, 31, 31, 30, 31, 30, 31];
+    let leap = [31, 29, 31, 30, 31, 30, 31, 31, 30, 31, 30, 31];
+    let years = [
+        (1, plain),
+        (1900, plain),
+        (2000, leap),
+        (2024, leap),
+        (2100, plain),
+        (9999, plain),
+    ];
+    for (year, days) in years {
+        for number in 1..13u8 {
+            let month = month(&rt, year, number);
+            assert_eq!(rt; (month.year(), month.number()), (year, number));
+            assert_eq!(rt;
+                month.days(),
+                days[(number - 1) as usize],
+                "in {year}-{number}"
+            );
+        }
+    }
+}
+
+#[test]
+fn other_months_are_none(rt: HostRuntime) {
+    for (year, number) in [(0, 1), (-1, 1), (10_000, 1), (2024, 0), (2024, 13)] {
+        assert!(rt; Month::new(year, number).is_none(), "{year}-{number}");
+    }
+}
+
+#[test]
+fn weekends_are_saturdays_and_sundays(rt: HostRuntime) {
+    let saturdays_and_sundays = [
+        (1, 1, 6),
+        (1582, 10, 16),
+        (1666, 9, 12),
+        (1755, 11, 1),
+        (1815, 6, 18),
+        (1900, 3, 3),
+        (1969, 7, 20),
+        (2000, 1, 1),
+        (2024, 3, 2),
+        (2024, 3, 3),
+        (2099, 12, 26),
+        (2400, 2, 27),
+        (9999, 12, 26),
+    ];
+    for (year, number, day) in saturdays_and_sundays {
+        let weekend = is_weekend(&rt, year, number, day);
+        assert!(rt; weekend, "{year}-{number}-{day}");
+    }
+    let weekdays = [
+        (1, 1, 1),
+        (1582, 10, 15),
+        (1776, 7, 4),
+        (1900, 1, 1),
+        (1963, 11, 22),
+        (1999, 12, 31),
+        (2000, 2, 29),
+        (2024, 2, 29),
+        (2024, 3, 1),
+        (2024, 3, 4),
+        (2100, 3, 1),
+        (9999, 12, 31),
+    ];
+    for (year, number, day) in weekdays {
+        let weekend = is_weekend(&rt, year, number, day);
+        assert!(rt; !weekend, "{year}-{number}-{day}");
+    }
+}
+
+/// One schedule tells the kind of day and the month, the other the hour, so no two places are alike in both.
+#[test]
+fn each_hour_has_the_period_of_its_place(rt: HostRuntime) {
+    let mut weekday_months = [[0; 24]; 12];
+    let mut weekend_months = [[0; 24]; 12];
+    let mut hours = [[0; 24]; 12];
+    for i in 0..12u8 {
+        weekday_months[i as usize] = [i; 24];
+        weekend_months[i as usize] = [12 + i; 24];
+        for hour in 0..24u8 {
+            hours[i as usize][hour as usize] = hour;
+        }
+    }
+    let by_month = schedule(&rt, weekday_months, weekend_months);
+    let by_hour = schedule(&rt, hours, hours);
+    assert_eq!(rt;
+        (by_month.weekday()[11][0], by_month.weekend()[11][0]),
+        (11, 23)
+    );
+    // Saturdays of 2024, each after a Friday of the same month
+    for (number, saturday) in [(1, 6), (2, 3), (3, 2), (6, 29), (9, 28), (12, 28)] {
+        let month = month(&rt, 2024, number);
+        assert!(rt; 2 <= saturday && saturday <= month.days());
+        for hour in 0..24u8 {
+            assert_eq!(rt; by_month.period_at(month, saturday - 1, hour), number - 1);
+            assert_eq!(rt; by_month.period_at(month, saturday, hour), number + 11);
+            assert_eq!(rt; by_hour.period_at(month, saturday - 1, hour), hour);
+            assert_eq!(rt; by_hour.period_at(month, saturday, hour), hour);
+        }
+    }
+}
+
+#[test]
+fn periods_end_at_35(rt: HostRuntime) {
+    let low = [[0; 24]; 12];
+    let mut high = [[0; 24]; 12];
+    high[11][23] = 35;
+    assert!(rt; Schedule::new(low, high).is_some() && Schedule::new(high, low).is_some());
+    high[11][23] = 36;
+    assert!(rt; Schedule::new(low, high).is_none() && Schedule::new(high, low).is_none());
+}
+
+/// The month of a number that is there.
+fn month(rt: &impl Abort, year: i16, number: u8) -> Month {
+    Month::new(year, number).expect(rt, "a month")
+}
+
+/// The schedule of two grids of periods.
+fn schedule(rt: &impl Abort, weekday: [[u8; 24]; 12], weekend: [[u8; 24]; 12]) -> Schedule {
+    Schedule::new(weekday, weekend).expect(rt, "a schedule")
+}
+
+/// Whether a day that is there is on a weekend.
+fn is_weekend(rt: &impl Abort, year: i16, number: u8, day: u8) -> bool {
+    let month = month(rt, year, number);
+    assert!(rt; day >= 1 && day <= month.days());
+    month.weekend(day)
+}
