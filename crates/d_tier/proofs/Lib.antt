@@ -1,0 +1,2 @@
+mod PriceFacts
+mod TableFacts

@@ -1,0 +1,13 @@
+//! Tables of marginal tiers: prices that change at rising ends, as tariffs charge energy and demand.
+//!
+//! Energy tiers count watt-hours and demand tiers watts; a price is in units of 10^-18 USD per kWh or per kW. A table is kept in place:
+//! nothing here takes memory.
+#![tactic(auto)]
+
+#[cfg(test)]
+mod tests;
+mod tier;
+mod tiers;
+
+pub use tier::Tier;
+pub use tiers::Tiers;
