@@ -1,0 +1,7 @@
+use Rattle.d_tariff.specs.Terms.{HasDemandPrices}
+use Rattle.d_tariff.proofs.EntryFacts.{entry_keeps, found_keeps}
+use Rattle.d_tariff.proofs.tariff.Tariff.demand_tiers.Goals as goal
+
+pub returns-clause-prices : goal.returns-clause-prices
+returns-clause-prices c =
+    found_keeps HasDemandPrices c.get.result _ c.get.ensures (entry_keeps HasDemandPrices c.args.self.now.demand _ c.args.self.now.valid.demand_prices)

@@ -1,0 +1,100 @@
+//! A tariff.
+
+ghost use Rattle.d_tariff.specs.Terms.{IsTariff};
+
+use crate::charge::Charge;
+use crate::columns::Columns;
+use crate::period::{Period, Periods};
+use crate::tier_lists::TierLists;
+use d_cal::{Month, Schedule};
+use d_tier::Tiers;
+
+/// The tariff of a record. A contract sees it as `terms_of` shows it.
+#[derive(Drop)]
+pub struct Tariff {
+    /// Each of the energy periods 0 to 35, where it is there.
+    pub energy: Periods,
+    /// The tiers of each of the demand periods 0 to 35, where it has some.
+    pub demand: TierLists,
+    /// The tiers of each of the flat demand periods 0 to 35, where it has some.
+    pub flat: TierLists,
+    /// The energy period of each hour.
+    pub energy_hours: Schedule,
+    /// The demand period of each hour.
+    pub demand_hours: Schedule,
+    /// The flat demand period of each month, January first.
+    pub flat_months: [u8; 12],
+    /// The fraction of each month's highest demand that later months are billed for at least, January first, in units of 10^-20.
+    pub ratchet: [u128; 12],
+    /// What is charged whatever is used.
+    pub fixed: Charge,
+    /// What a bill is at least.
+    pub minimum: Option<Charge>,
+    /// Whether energy is settled hour by hour.
+    pub hourly: bool,
+    /// The positions of the record's columns that nothing is read from, in order.
+    pub ignored: Columns,
+    pub ghost valid: { IsTariff
+        (record {
+          energy = energy;
+          demand = demand;
+          flat = flat;
+          energy_weekday = energy_hours.weekday;
+          energy_weekend = energy_hours.weekend;
+          demand_weekday = demand_hours.weekday;
+          demand_weekend = demand_hours.weekend;
+          flat_months = flat_months;
+          ratchet = ratchet;
+          fixed = fixed;
+          minimum = minimum;
+          hourly = hourly;
+          ignored = ignored;
+        }) },
+}
+
+impl Tariff {
+    ghost use Rattle.std.specs.Prelude.{◌≡◌, ◌≤◌, ◌<◌, ◌-◌, Some, None, option_map, slice_index, IfSome};
+    ghost use Rattle.d_cal.specs.Calendar.{IsDayOf};
+    ghost use Rattle.d_cal.specs.Schedules.{period_of};
+    ghost use Rattle.d_tariff.specs.Terms.{HasEnergyPrices, HasDemandPrices, period_at, tiers_at};
+    ghost use Rattle.d_tariff.specs.Shown.{terms_of};
+
+    /// The energy period of that number, or None exactly where there is none.
+    pub fn period(&self, number: u8) -> Option<&Period>
+        ensures value { option_map (λ period. period.now) result ≡ period_at (terms_of self.now).energy number }
+        ensures prices { IfSome result (λ period. HasEnergyPrices period.now) }
+        ensures valid { IsTariff (terms_of self.now) }
+    {
+        self.energy.get(number)
+    }
+
+    /// The energy period in an hour, from 0, of that day of the month, from 1.
+    pub fn period_at(&self, month: Month, day: u8, hour: u8) -> &Period
+        requires day { IsDayOf month.year month.number day }
+        requires hour { hour < 24 }
+        ensures value { let terms = terms_of self.now in period_at terms.energy (period_of terms.energy_weekday terms.energy_weekend month.year month.number day hour) ≡ Some result.now }
+        ensures prices { HasEnergyPrices result.now }
+    {
+        let number = self.energy_hours.period_at(month, day, hour);
+        match self.period(number) {
+            Some(period) => period,
+            None => unreachable!(),
+        }
+    }
+
+    /// The tiers of the demand period of that number, or None exactly where it has none.
+    pub fn demand_tiers(&self, number: u8) -> Option<&Tiers>
+        ensures value { option_map (λ tiers. tiers.now) result ≡ tiers_at (terms_of self.now).demand number }
+        ensures prices { IfSome result (λ tiers. HasDemandPrices tiers.now) }
+    {
+        self.demand.get(number)
+    }
+
+    /// The tiers of the flat demand period of a month, or None exactly where it has none.
+    pub fn flat_tiers(&self, month: Month) -> Option<&Tiers>
+        ensures value { let terms = terms_of self.now in option_map (λ tiers. tiers.now) result ≡ tiers_at terms.flat (slice_index terms.flat_months (month.number - 1)) }
+        ensures prices { IfSome result (λ tiers. HasDemandPrices tiers.now) }
+    {
+        self.flat.get(self.flat_months[(month.number - 1) as usize])
+    }
+}
