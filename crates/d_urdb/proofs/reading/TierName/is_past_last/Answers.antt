@@ -1,0 +1,11 @@
+use Rattle.std.proofs.Common.{◌≡◌, arith, length, refl}
+use Rattle.d_urdb.specs.Names.{IsPastLast}
+use Rattle.d_urdb.proofs.TierFacts.{more_value}
+use Rattle.d_urdb.proofs.reading.TierName.is_past_last.Goals as goal
+
+pub returns-in_default : goal.returns-in_default
+returns-in_default c =
+    let digits = c.args.self.now.tier.now in
+    let large = more_value digits c.requires (λ (one : length digits ≡ 1). omega arith) (λ (two : length digits ≡ 2). omega arith) in
+    let past : IsPastLast digits = omega arith in
+    (λ always. past, λ is. refl)
