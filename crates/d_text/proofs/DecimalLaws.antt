@@ -3,7 +3,7 @@ use Rattle.std.proofs.Common.{◌≡◌, ◌⊎◌, inl, inr, ℕ, ◌+◌, ◌*
 use Rattle.std.proofs.lemmas.Int.{ints}
 use Rattle.std.proofs.lemmas.Nat.{div-add-mod'}
 use Rattle.d_num.specs.Amount.{IsWithin}
-use Rattle.d_text.specs.Decimal.{Written, IsDecimalText, IsInLimit, IsUnits, IsNearest, signed, size_over, size_under}
+use Rattle.d_text.specs.Decimal.{Written, IsDecimalText, IsInLimit, IsUnits, IsNearest, IsRoundedDown, signed, size_over, size_under}
 use Rattle.d_text.specs.Fault.{IsDecimalOf, IsFloorOf}
 use Rattle.d_text.specs.Law.{HasOneValue, HasNoValue}
 use Rattle.d_text.proofs.SizeFacts.{order, times-le, times-lt, under-positive}
@@ -59,6 +59,28 @@ pub decimal_same : (cell : List ℕ) (places limit : ℕ) (u v : ℤ) → IsDeci
 decimal_same cell places limit u v hu hv =
     let same : hv.written ≡ hu.written = one-reading cell hv.written hu.written hv.form hu.form in
     same_units hu.written places u v hu.value (rw same at hv.value)
+
+-- rounded down, a number over another is one
+nearest_same : (minus : Bool) (a b over under : ℕ) → IsNearest minus a over under → IsNearest minus b over under → a ≡ b
+nearest_same true a b over under ha hb = by_order (order a b) (order b a)
+  where
+    by_order : (a ≤ b) ⊎ (b < a) → (b ≤ a) ⊎ (a < b) → a ≡ b
+    by_order (inr lt) other = absurd (let above : over ≤ b * under = hb.above in let below : b * under < over = ha.least b lt in omega arith)
+    by_order (inl le) (inr lt) = absurd (let above : over ≤ a * under = ha.above in let below : a * under < over = hb.least a lt in omega arith)
+    by_order (inl le) (inl ge) = omega arith
+nearest_same false a b over under ha hb = by_order (order a b) (order b a)
+  where
+    by_order : (a ≤ b) ⊎ (b < a) → (b ≤ a) ⊎ (a < b) → a ≡ b
+    by_order (inr lt) other = absurd (let below : a * under ≤ over = ha.below in let above : over < a * under = hb.greatest a lt in omega arith)
+    by_order (inl le) (inr lt) = absurd (let below : b * under ≤ over = hb.below in let above : over < b * under = ha.greatest b lt in omega arith)
+    by_order (inl le) (inl ge) = omega arith
+
+-- and so is a cell's value rounded down
+pub floor_same : (cell : List ℕ) (places limit : ℕ) (u v : ℤ) → IsFloorOf cell places limit u → IsFloorOf cell places limit v → u ≡ v
+floor_same cell places limit u v hu hv =
+    let same : hv.written ≡ hu.written = one-reading cell hv.written hu.written hv.form hu.form in
+    let other : IsRoundedDown hu.written places v = rw same at hv.value in
+    hu.value.1 ∙ ap (signed hu.written.minus) (nearest_same hu.written.minus hu.value.0 other.0 (size_over hu.written places) (size_under hu.written) hu.value.2 other.2) ∙ sym other.1
 
 -- a number over another is whole or not
 abbrev IsWholeOrNot : ℕ → ℕ → Type 0

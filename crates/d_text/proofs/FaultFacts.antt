@@ -41,15 +41,18 @@ order a b = grind arith
 begins : (text : List ℕ) (s : Scan) → Holds text s → BeginsDecimal text
 begins text s h = read-begins s.phase text s.minus h.digits s.behind s.down h.power h.read
 
--- the place where no decimal goes on
-pub stuck-fault : (cell : List ℕ) (i : ℕ) (s : Scan) → i < length cell → run (take i cell) Start ≡ Some s.phase → Holds (take i cell) s → None ≡ after_kind (kind_of (get_or cell i 0)) s.phase → IsFormFault cell i
-stuck-fault cell i s lt e h f = record {
+-- the place where no decimal goes on, behind a front with which some decimal begins
+pub stuck-at : (cell : List ℕ) (i : ℕ) (q : Phase) → i < length cell → run (take i cell) Start ≡ Some q → BeginsDecimal (take i cell) → None ≡ after_kind (kind_of (get_or cell i 0)) q → IsFormFault cell i
+stuck-at cell i q lt e front f = record {
   some = omega arith;
-  other = λ w d. no_decimal cell w (ap (λ (t : List ℕ). run t Start) (split cell i lt) ∙ nowhere (take i cell) (drop (suc i) cell) (get_or cell i 0) s.phase e f) d;
+  other = λ w d. no_decimal cell w (ap (λ (t : List ℕ). run t Start) (split cell i lt) ∙ nowhere (take i cell) (drop (suc i) cell) (get_or cell i 0) q e f) d;
   within = omega arith;
-  begins = begins (take i cell) s h;
-  longest = λ k le b. elim (order k i) [ inl small ↦ small | inr large ↦ absurd (longer cell i k s.phase large le e f b) ];
+  begins = front;
+  longest = λ k le b. elim (order k i) [ inl small ↦ small | inr large ↦ absurd (longer cell i k q large le e f b) ];
 }
+
+pub stuck-fault : (cell : List ℕ) (i : ℕ) (s : Scan) → i < length cell → run (take i cell) Start ≡ Some s.phase → Holds (take i cell) s → None ≡ after_kind (kind_of (get_or cell i 0)) s.phase → IsFormFault cell i
+stuck-fault cell i s lt e h f = stuck-at cell i s.phase lt e (begins (take i cell) s h) f
 
 -- or a cell that stops too soon
 pub end-fault : (cell : List ℕ) (s : Scan) → 0 < length cell → run cell Start ≡ Some s.phase → Holds cell s → is_done s.phase ≡ false → IsFormFault cell (length cell)

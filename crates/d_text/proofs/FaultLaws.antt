@@ -1,5 +1,5 @@
 -- A cell that is refused has no value.
-use Rattle.std.proofs.Common.{◌≡◌, ℕ, ◌+◌, ◌<◌, ℤ, List, [], ◌++◌, length, length-append, sym, ap, ◌∙◌, subst, arith}
+use Rattle.std.proofs.Common.{◌≡◌, ℕ, ◌+◌, ◌<◌, ℤ, List, [], length, length-append, ap, ◌∙◌, subst, arith}
 use Rattle.d_text.specs.Decimal.{Written, IsDecimalText, IsInLimit, IsUnits}
 use Rattle.d_text.specs.Fault.{IsDecimalFault, IsDecimalOf}
 use Rattle.d_text.specs.declared.decimal.DecimalFault.{DecimalFault}
@@ -7,7 +7,7 @@ use Rattle.d_text.specs.declared.decimal.DecimalFault.TheVariants.{Empty, Form, 
 use Rattle.d_text.proofs.OneReading.{one-reading}
 
 -- no decimal is empty
-empty_other : (cell : List ℕ) (w : Written) → cell ≡ [] → IsDecimalText cell w → ⊥
+pub empty_other : (cell : List ℕ) (w : Written) → cell ≡ [] → IsDecimalText cell w → ⊥
 empty_other cell w empty text =
     let m = text.mantissa_is in
     let all : length cell ≡ length text.mantissa + length text.exponent = ap length text.form ∙ length-append text.mantissa text.exponent in

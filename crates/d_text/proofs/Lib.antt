@@ -17,3 +17,4 @@ pub mod LevelFacts
 pub mod PartFacts
 pub mod GridFacts
 pub mod GridLaws
+pub mod OutcomeLaws

@@ -1,5 +1,5 @@
 -- What a reader says of whole texts.
-use Rattle.std.proofs.Common.{◌≡◌, ℕ, ◌+◌, ◌≤◌, ◌<◌, ◌⊎◌, inl, inr, suc, Bool, true, false, Option, None, Some, List, [], ◌∷◌, ◌++◌, length, take, drop, get_or, arith, refl, sym, ap, ap₂, ◌∙◌, append_assoc}
+use Rattle.std.proofs.Common.{◌≡◌, ℕ, ◌+◌, ◌≤◌, ◌<◌, ◌⊎◌, inl, inr, zero, suc, Bool, true, false, Option, None, Some, List, [], ◌∷◌, ◌++◌, length, take, drop, get_or, arith, refl, sym, ap, ap₂, ◌∙◌, append_assoc}
 use Rattle.std.proofs.Math.Seq.{drop-cons}
 use Rattle.std.proofs.lemmas.List.{take-append-drop, take-take, get_or-take, length-take-le, take_all, take_more}
 use Rattle.d_text.specs.Grid.{Begins, IsRefusedAt}
@@ -166,3 +166,42 @@ form-decided {S = S} {A = A} m Form Good r cell = by_run (run m 0 cell m.start) 
     by_run : (o : Option S) → run m 0 cell m.start ≡ o → ((value : A) × Form 0 cell value) ⊎ ((value : A) → Form 0 cell value → ⊥)
     by_run None e = inr (λ value h. let read = r.complete 0 cell value h in let bad : Some read.end ≡ None = sym read.runs ∙ e in absurd cc)
     by_run (Some s) e = by_value s (m.value s) e refl
+
+-- a place where nothing goes on
+record Stuck {S A : Type 0} (m : Reader S A) (cell : List ℕ) : Type 0 where
+  place : ℕ
+  state : S
+  within : place < length cell
+  runs : run m 0 (take place cell) m.start ≡ Some state
+  stops : m.next place state (get_or cell place 0) ≡ None
+
+-- a cell is read up to some place, or it stops before
+stuck-or-led : {S A : Type 0} (m : Reader S A) (cell : List ℕ) (i : ℕ) → i ≤ length cell → Stuck m cell ⊎ ((s : S) × (run m 0 (take i cell) m.start ≡ Some s))
+stuck-or-led m cell zero le = inr (m.start, refl)
+stuck-or-led {S = S} m cell (suc i) le = by_front (stuck-or-led m cell i (omega arith))
+  where
+    by_next : (s : S) (o : Option S) → run m 0 (take i cell) m.start ≡ Some s → m.next i s (get_or cell i 0) ≡ o → Stuck m cell ⊎ ((t : S) × (run m 0 (take (suc i) cell) m.start ≡ Some t))
+    by_next s None e f = inl (record { place = i; state = s; within = omega arith; runs = e; stops = f })
+    by_next s (Some t) e f =
+        let more : run m 0 (take (i + 1) cell) m.start ≡ Some t = run-more m cell i s t (omega arith) e f in
+        let next : i + 1 ≡ suc i = omega arith in
+        inr (t, sym (ap (λ (k : ℕ). run m 0 (take k cell) m.start) next) ∙ more)
+
+    by_front : Stuck m cell ⊎ ((s : S) × (run m 0 (take i cell) m.start ≡ Some s)) → Stuck m cell ⊎ ((t : S) × (run m 0 (take (suc i) cell) m.start ≡ Some t))
+    by_front (inl stuck) = inl stuck
+    by_front (inr led) = by_next led.0 (m.next i led.0 (get_or cell i 0)) led.1 refl
+
+-- a text is of the form or refused at some place
+pub form-or-refused : {S A : Type 0} (m : Reader S A) (Form : ℕ → List ℕ → A → Type 0) (Good : S → Type 0) → Recognizes m Form Good → (cell : List ℕ)
+    → ((value : A) × Form 0 cell value) ⊎ ((place : ℕ) × IsRefusedAt Form cell place)
+form-or-refused {S = S} {A = A} m Form Good r cell = by_front (stuck-or-led m cell (length cell) (omega arith))
+  where
+    by_value : (s : S) (o : Option A) → run m 0 cell m.start ≡ Some s → m.value s ≡ o → ((value : A) × Form 0 cell value) ⊎ ((place : ℕ) × IsRefusedAt Form cell place)
+    by_value s None e f = inr (length cell, end-refused m Form Good r cell s e f)
+    by_value s (Some value) e f = inl (value, r.sound 0 cell value (record { end = s; runs = e; says = f }))
+
+    by_front : Stuck m cell ⊎ ((s : S) × (run m 0 (take (length cell) cell) m.start ≡ Some s)) → ((value : A) × Form 0 cell value) ⊎ ((place : ℕ) × IsRefusedAt Form cell place)
+    by_front (inl stuck) = inr (stuck.place, stuck-refused m Form Good r cell stuck.place stuck.state stuck.within stuck.runs stuck.stops)
+    by_front (inr led) =
+        let whole : run m 0 cell m.start ≡ Some led.0 = sym (ap (λ (t : List ℕ). run m 0 t m.start) (take_all (length cell) cell (omega arith))) ∙ led.1 in
+        by_value led.0 (m.value led.0) whole refl

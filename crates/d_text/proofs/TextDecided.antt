@@ -1,15 +1,15 @@
 -- Whether a text is a decimal: what its front says in each phase, byte by byte.
-use Rattle.std.proofs.Common.{◌≡◌, ◌⊎◌, inl, inr, ℕ, ◌+◌, ◌-◌, ◌*◌, ◌≤◌, ◌<◌, Bool, true, false, cond, Option, None, Some, IfSome, List, [], ◌∷◌, ◌++◌, refl, sym, ◌∙◌, append_assoc, arith}
+use Rattle.std.proofs.Common.{◌≡◌, ◌⊎◌, inl, inr, ℕ, ◌+◌, ◌-◌, ◌*◌, ◌≤◌, ◌<◌, Bool, true, false, cond, Option, None, Some, IfSome, List, [], ◌∷◌, ◌++◌, refl, sym, subst, ◌∙◌, append_assoc, arith}
 use Rattle.std.proofs.lemmas.Bool.Decides.{nat_tests}
 use Rattle.std.proofs.lemmas.List.{append-nil}
-use Rattle.d_text.specs.Decimal.{Written, IsDecimalText}
+use Rattle.d_text.specs.Decimal.{Written, IsDecimalText, BeginsDecimal}
 use Rattle.d_text.specs.Scan.{kind_of, after_digit, after_sign, after_point, after_mark, after_kind, is_done, IsRead}
 use Rattle.d_text.specs.declared.scan.Phase.{Phase}
 use Rattle.d_text.specs.declared.scan.Phase.TheVariants.{Start, Signed, Whole, LonePoint, Fraction, Marked, MarkSigned, Power}
 use Rattle.d_text.specs.declared.scan.Kind.{Kind}
 use Rattle.d_text.specs.declared.scan.Kind.TheVariants.{Digit, Sign, Point, Mark, Other}
 use Rattle.d_text.proofs.ReadFacts.{point-whole, sign_byte, marked-sign}
-use Rattle.d_text.proofs.PhaseFacts.{and_on, run, decimal-ends, read-whole, read-fraction, read-power, read-lone, read-mark, read-done}
+use Rattle.d_text.proofs.PhaseFacts.{and_on, run, decimal-ends, read-whole, read-fraction, read-power, read-lone, read-mark, read-done, read-begins}
 
 -- what the text of a phase says so far
 record Said (phase : Phase) (text : List ℕ) : Type 0 where
@@ -148,6 +148,13 @@ on_text (byte ∷ rest) text phase s = on_rest rest text byte (after_kind (kind_
 -- what a cell says from its front
 said_all : (cell : List ℕ) → IfSome (run cell Start) (λ q. Said q cell)
 said_all cell = on_text cell [] Start (record { minus = false; digits = 0; behind = 0; down = false; power = 0; read = (refl, refl, refl, refl, (refl, refl)) })
+
+-- some decimal begins with what leads somewhere
+pub led-begins : (text : List ℕ) (q : Phase) → run text Start ≡ Some q → BeginsDecimal text
+led-begins text q e = by_said (subst (λ (o : Option Phase). IfSome o (λ r. Said r text)) e (said_all text))
+  where
+    by_said : Said q text → BeginsDecimal text
+    by_said s = read-begins q text s.minus s.digits s.behind s.down s.power s.read
 
 -- a cell is a decimal or not
 abbrev pub IsDecimalOrNot : List ℕ → Type 0

@@ -1,6 +1,6 @@
 //! What holds of all decimals, grids and lists.
 
-ghost use Rattle.d_text.specs.Law.{HasOneReading, HasValueOrNone, HasOneGrid, HasOneList};
+ghost use Rattle.d_text.specs.Law.{HasOneReading, HasValueOrNone, HasOneGrid, HasOneList, HasOneFloor, HasValueOrFault, HasFloorOrFault, HasGridOrFault, HasListOrFault};
 
 /// A text says at most one thing as a decimal, so that a cell has one value at most.
 pub fn reads_one_way()
@@ -16,4 +16,17 @@ pub fn reads_or_not()
 pub fn splits_one_way()
     ensures grid { HasOneGrid }
     ensures list { HasOneList }
+{}
+
+/// A cell has at most one value rounded down, with so many places and that limit.
+pub fn rounds_one_way()
+    ensures { HasOneFloor }
+{}
+
+/// Each cell is read or refused for a reason: as a decimal, as a decimal rounded down, as a grid, and as a list of twelve items.
+pub fn reads_or_refuses()
+    ensures decimal { HasValueOrFault }
+    ensures floor { HasFloorOrFault }
+    ensures grid { HasGridOrFault }
+    ensures list { HasListOrFault }
 {}

@@ -21,5 +21,5 @@ mod text;
 pub use decimal::{DecimalFault, read_decimal, read_floor};
 pub use grid::{GridFault, read_grid};
 pub use items::{Span, split_list};
-pub use law::{reads_one_way, reads_or_not, splits_one_way};
+pub use law::{reads_one_way, reads_or_not, reads_or_refuses, rounds_one_way, splits_one_way};
 pub use text::{money_text, rate_text, whole_text};
