@@ -163,6 +163,11 @@ period_found text behind number rest tier found last front middle value end peri
 abbrev pub is_name : Structure → ℕ → List ℕ → Part → Option (Structure × ℕ × List ℕ × Part)
 is_name structure period digits part = Some (structure, period, digits, part)
 
+pub name_parts : (a e : Structure) (b f : ℕ) (c g : List ℕ) (d h : Part) → is_name a b c d ≡ is_name e f g h → (a ≡ e) × (b ≡ f) × (c ≡ g) × (d ≡ h)
+name_parts a e b f c g d h same =
+    let parts : Option (Structure × ℕ × List ℕ × Part) → Structure × ℕ × List ℕ × Part = λ o. unwrap_or {T = Structure × ℕ × List ℕ × Part} o (a, b, c, d) in
+    (ap (λ o. (parts o).0) same, ap (λ o. (parts o).1) same, ap (λ o. (parts o).2) same, ap (λ o. (parts o).3) same)
+
 -- the name that is found
 pub name_found : (text rest tier : List ℕ) (structure : Structure) (period : ℕ) (part : Part)
     → ((s : Structure) (r : List ℕ) → (is_pair structure rest ≡ is_pair s r) ↔ (text ≡ structure_text s ++ r))
@@ -174,10 +179,11 @@ name_found text rest tier structure period part front end s p d q =
     let whole : IsTierName text structure period tier part =
     record { there = tail.there; number = tail.number; form = start ∙ ap (λ xs. structure_text structure ++ xs) tail.form } in (
       λ same.
-          let first : structure ≡ s = ap (λ o. (unwrap_or {T = Structure × ℕ × List ℕ × Part} o (structure, period, tier, part)).0) same in
-          let second : period ≡ p = ap (λ o. (unwrap_or {T = Structure × ℕ × List ℕ × Part} o (structure, period, tier, part)).1) same in
-          let third : tier ≡ d = ap (λ o. (unwrap_or {T = Structure × ℕ × List ℕ × Part} o (structure, period, tier, part)).2) same in
-          let fourth : part ≡ q = ap (λ o. (unwrap_or {T = Structure × ℕ × List ℕ × Part} o (structure, period, tier, part)).3) same in
+          let parts = name_parts structure s period p tier d part q same in
+          let first = parts.0 in
+          let second = parts.1 in
+          let third = parts.2 in
+          let fourth = parts.3 in
           subst (λ (x : Structure). IsTierName text x p d q) first
           (subst (λ (x : ℕ). IsTierName text structure x d q) second
           (subst (λ (x : List ℕ). IsTierName text structure period x q) third

@@ -11,7 +11,7 @@ after_least : (n : ℕ) (digits : List ℕ) → n ≤ digits_value_after 10 n di
 after_least n [] = omega arith
 after_least n (d ∷ digits) = let later = after_least (n * 10 + digit_value d) digits in omega arith
 
-digit_is : (byte : ℕ) → is_digit byte ≡ true → digit_value byte + 48 ≡ byte
+pub digit_is : (byte : ℕ) → is_digit byte ≡ true → digit_value byte + 48 ≡ byte
 digit_is byte is = digit_value_digit byte (digit_range byte is)
 
 -- one digit is below 10

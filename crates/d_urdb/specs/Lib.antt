@@ -1,2 +1,14 @@
 pub mod Names
 pub mod Reading
+pub mod Numbers
+pub mod Tiers
+pub mod Refusals
+pub mod Periods
+pub mod Index
+pub mod Past
+pub mod Shown
+pub mod Checks
+pub mod Values
+pub mod Hours
+pub mod Energy
+pub mod Record

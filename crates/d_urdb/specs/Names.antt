@@ -1,11 +1,26 @@
 -- The names of the columns that a bulk file of the Utility Rate Database has for tiers, such as `energyratestructure/period3/tier0rate`.
-use Rattle.std.specs.Prelude.{◌≡◌, ℕ, ◌<◌, ◌≤◌, Bool, true, ◌&&◌, nat_lt, List, [], ◌++◌, length, All, slice_index, Option, None, Some, codes, decimal}
+use Rattle.std.specs.Prelude.{◌≡◌, ℕ, zero, suc, ◌+◌, ◌<◌, ◌≤◌, Bool, true, ◌&&◌, nat_lt, List, [], ◌++◌, length, map, All, slice_index, Option, None, Some, codes, decimal}
+use Rattle.std.specs.Int.Digits.{digits_of}
 use Rattle.std.specs.Str.Parse.{digits_value}
-use Rattle.d_table.specs.Table.{column_of, cell_in}
+use Rattle.d_table.specs.Table.{cell_in}
 use Rattle.d_urdb.specs.declared.names.Structure.{Structure}
 use Rattle.d_urdb.specs.declared.names.Structure.TheVariants.{Energy, Demand, FlatDemand}
 use Rattle.d_urdb.specs.declared.names.Part.{Part}
 use Rattle.d_urdb.specs.declared.names.Part.TheVariants.{Max, Unit, Rate, Adj, Sell}
+
+-- the structures, counted from 0
+abbrev pub structure_number : Structure → ℕ
+structure_number Energy = 0
+structure_number Demand = 1
+structure_number FlatDemand = 2
+
+-- the parts, counted from 0
+abbrev pub part_number : Part → ℕ
+part_number Max = 0
+part_number Unit = 1
+part_number Rate = 2
+part_number Adj = 3
+part_number Sell = 4
 
 -- how the names of a structure begin
 abbrev pub structure_text : Structure → List ℕ
@@ -26,18 +41,19 @@ abbrev pub name_of : Structure → ℕ → List ℕ → Part → List ℕ
 name_of structure period digits part =
     structure_text structure ++ (codes "/period" ++ (decimal period ++ (codes "/tier" ++ (digits ++ part_text part))))
 
+-- a number of any size in decimal digits (`decimal` has no more than the last 64 of them)
+unfoldable pub number_text : ℕ → List ℕ
+number_text zero = codes "0"
+number_text (suc n) = map (λ digit. 48 + digit) (digits_of 10 (suc n))
+
 -- the name of the column of a part of a tier
 abbrev pub tier_name : Structure → ℕ → ℕ → Part → List ℕ
-tier_name structure period tier part = name_of structure period (decimal tier) part
+tier_name structure period tier part = name_of structure period (number_text tier) part
 
 -- the cell of a row in that column; no bytes where there is no such column
 abbrev pub cell_at : Option ℕ → List (List ℕ) → List ℕ
 cell_at None row = []
 cell_at (Some column) row = cell_in row column
-
--- the cell of a part of a tier in a row under a header
-abbrev pub tier_cell : Structure → ℕ → ℕ → Part → List (List ℕ) → List (List ℕ) → List ℕ
-tier_cell structure period tier part header row = cell_at (column_of (tier_name structure period tier part) header) row
 
 -- a digit of a decimal number
 abbrev pub is_digit : ℕ → Bool

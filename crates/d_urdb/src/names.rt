@@ -1,11 +1,8 @@
 //! The names of the columns of tiers.
 
-ghost use Rattle.std.specs.Prelude.{◌≡◌, ◌≤◌, ◌<◌, length, IfSome};
-ghost use Rattle.d_table.specs.Table.{column_of, row_at};
+ghost use Rattle.std.specs.Prelude.{◌≡◌, ◌≤◌, ◌<◌, length};
 ghost use Rattle.d_urdb.specs.Names as spec;
-
-use crate::name_text::NameText;
-use d_table::Table;
+ghost use Rattle.d_urdb.specs.Tiers.{has_part};
 
 /// A group of a record's tiers.
 #[derive(Clone, Copy, PartialEq, Eq, Debug)]
@@ -25,6 +22,28 @@ impl Structure {
             Structure::Energy => b"energyratestructure",
             Structure::Demand => b"demandratestructure",
             Structure::FlatDemand => b"flatdemandstructure",
+        }
+    }
+
+    /// Its place among the structures, from 0.
+    pub(crate) fn number(self) -> usize
+        ensures value { result ≡ spec.structure_number self }
+        ensures within { result < 3 }
+    {
+        match self {
+            Structure::Energy => 0,
+            Structure::Demand => 1,
+            Structure::FlatDemand => 2,
+        }
+    }
+
+    /// Whether its tiers have that part: units and sell rates are for energy alone.
+    pub(crate) fn has_part(self, part: Part) -> bool
+        ensures { result ≡ has_part self part }
+    {
+        match self {
+            Structure::Energy => true,
+            Structure::Demand | Structure::FlatDemand => !matches!(part, Part::Unit | Part::Sell),
         }
     }
 }
@@ -54,33 +73,18 @@ impl Part {
             Part::Sell => b"sell",
         }
     }
-}
 
-/// The name of the column of that part of a tier, in small letters.
-fn tier_name(structure: Structure, period: u8, tier: u8, part: Part) -> NameText
-    ensures { result ≡ spec.tier_name structure period tier part }
-{
-    let mut name = NameText::new();
-    name.add(structure.text());
-    name.add(b"/period");
-    name.add_number(period);
-    name.add(b"/tier");
-    name.add_number(tier);
-    name.add(part.text());
-    name
-}
-
-/// The column of that part of a tier, or None exactly where the table has none. Periods and tiers are counted from 0; of two columns
-/// of one name the first counts, ASCII case ignored.
-pub fn tier_column(
-    table: &Table,
-    structure: Structure,
-    period: u8,
-    tier: u8,
-    part: Part,
-) -> Option<usize>
-    ensures value { result ≡ column_of (spec.tier_name structure period tier part) (row_at table.now 0) }
-    ensures within { IfSome result (λ column. column < length (row_at table.now 0)) }
-{
-    table.position(tier_name(structure, period, tier, part).as_slice())
+    /// Its place among the parts, from 0.
+    pub(crate) fn number(self) -> usize
+        ensures value { result ≡ spec.part_number self }
+        ensures within { result < 5 }
+    {
+        match self {
+            Part::Max => 0,
+            Part::Unit => 1,
+            Part::Rate => 2,
+            Part::Adj => 3,
+            Part::Sell => 4,
+        }
+    }
 }

@@ -14,7 +14,7 @@ const LAST_PERIOD: u8 = 35;
 
 /// What the name of a column says: the part of a tier, whose number is told by its digits.
 #[derive(Clone, Copy)]
-pub struct TierName<'a> {
+pub(crate) struct TierName<'a> {
     pub structure: Structure,
     pub period: u8,
     pub tier: &'a [u8],
@@ -51,7 +51,7 @@ struct PeriodEnd<'a> {
 }
 
 /// What a column's name says of a tier, ASCII case ignored, or None exactly where it isn't the name of a part of a tier.
-pub fn read_tier_name(name: &[u8]) -> Option<TierName<'_>>
+pub(crate) fn read_tier_name(name: &[u8]) -> Option<TierName<'_>>
     ensures exact { (structure : Structure) (period : ℕ) (digits : List ℕ) (part : Part) →
         (name_shown result ≡ Some (structure, period, digits, part)) ↔ IsTierName (str_to_ascii_lowercase name.now) structure period digits part }
     ensures number { IfSome result (λ n. IsTierNumber n.tier.now) }
@@ -199,7 +199,7 @@ fn period_within(number: u8) -> Option<u8>
 }
 
 /// What stands behind this front, ASCII case ignored, or None where the text doesn't begin with it. The front is in small letters.
-fn behind<'a>(text: &'a [u8], front: &[u8]) -> Option<&'a [u8]>
+pub(crate) fn behind<'a>(text: &'a [u8], front: &[u8]) -> Option<&'a [u8]>
     ensures { (rest : List ℕ) → (small_rest result ≡ Some rest) ↔ (str_to_ascii_lowercase text.now ≡ front.now ++ rest) }
 {
     if text.len() < front.len() {
@@ -213,7 +213,7 @@ fn behind<'a>(text: &'a [u8], front: &[u8]) -> Option<&'a [u8]>
 }
 
 /// Whether the text is the name, ASCII case ignored. The name is in small letters.
-fn is_named(text: &[u8], name: &[u8]) -> bool
+pub(crate) fn is_named(text: &[u8], name: &[u8]) -> bool
     ensures { IsTrue result ↔ (str_to_ascii_lowercase text.now ≡ name.now) }
 {
     if text.len() != name.len() {

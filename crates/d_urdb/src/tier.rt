@@ -1,23 +1,36 @@
 //! Tiers by the digits of their numbers.
 
-ghost use Rattle.std.specs.Prelude.{◌≡◌, ◌↔◌, ◌≤◌, IsTrue, length};
+ghost use Rattle.std.specs.Prelude.{◌≡◌, ◌≤◌, MatchOption, length};
 ghost use Rattle.std.specs.Str.Parse.{digits_value};
 ghost use Rattle.d_urdb.specs.Names.{IsTierNumber, IsPastLast};
 
 use crate::reading::TierName;
 
+const LAST_TIER: u8 = 15;
+
 impl<'a> TierName<'a> {
-    /// Whether the tier is past the last one that a table has room for, which is 15.
-    pub fn is_past_last(&self) -> bool
+    /// The tier's number, or None exactly where the tier is past the last one that a table has room for, which is 15.
+    pub(crate) fn number(&self) -> Option<u8>
         requires { IsTierNumber self.now.tier.now }
-        ensures { IsTrue result ↔ IsPastLast self.now.tier.now }
+        ensures { MatchOption result (IsPastLast self.now.tier.now) (λ number. (number ≤ 15) × (number ≡ digits_value 10 self.now.tier.now)) }
     {
         let digits = self.tier;
         match digits.len() {
-            1 => false,
-            2 => number_of_two(digits) >= 16,
-            _ => true,
+            1 => Some(digits[0] - b'0'),
+            2 => tier_within(number_of_two(digits)),
+            _ => None,
         }
+    }
+}
+
+/// The number as a tier's, or None exactly where it is above 15.
+fn tier_within(number: u8) -> Option<u8>
+    ensures { MatchOption result (16 ≤ number) (λ tier. (tier ≤ 15) × (tier ≡ number)) }
+{
+    if number <= LAST_TIER {
+        Some(number)
+    } else {
+        None
     }
 }
 

@@ -1,0 +1,69 @@
+-- What one check of a cell says.
+use Rattle.std.proofs.Common.{◌≡◌, ℕ, ℤ, Bool, true, false, not, ◌&&◌, List, [], ◌∷◌, Option, None, Some, Ok, Err, refl, sym, ap, ◌∙◌}
+use Rattle.d_text.specs.declared.decimal.DecimalFault.{DecimalFault}
+use Rattle.d_urdb.specs.declared.fault.Refused.{Refused}
+use Rattle.d_urdb.specs.declared.names.Structure.{Structure}
+use Rattle.d_urdb.specs.declared.names.Part.{Part}
+use Rattle.d_urdb.specs.declared.names.Part.TheVariants.{Max}
+use Rattle.d_urdb.specs.Numbers.{Readings}
+use Rattle.d_urdb.specs.Tiers.{Row, part_cell, part_column}
+use Rattle.d_urdb.specs.Refusals.{first_of, refusal, when, detail_of}
+use Rattle.d_urdb.specs.Periods.{price_refusal, end_refusal, price_limit, is_last}
+
+-- a refusal of the same column and detail
+pub refusal_same : (header : List (List ℕ)) (number : ℕ) (column column' : Option ℕ) (detail detail' : ℕ) (refused : Refused)
+    → refused ≡ refusal header number column detail → column ≡ column' → detail ≡ detail' → refusal header number column' detail' ≡ refused
+refusal_same header number column column' detail detail' refused is same_column same_detail =
+    sym (is ∙ ap (λ c. refusal header number c detail) same_column ∙ ap (refusal header number column') same_detail)
+
+-- a test that holds or not
+pub when_passes : (test : Bool) (refused : Refused) → test ≡ false → first_of (when test refused ∷ []) ≡ None
+unfolding first_of
+when_passes test refused fails = rw fails refl
+
+pub when_refuses : (test : Bool) (refused other : Refused) → test ≡ true → refused ≡ other → first_of (when test refused ∷ []) ≡ Some other
+unfolding first_of
+when_refuses test refused other passes same = rw (passes, same) refl
+
+-- a test of two parts
+pub both_hold : (a b : Bool) → a ≡ true → b ≡ false → (a && not b) ≡ true
+both_hold a b one other = rw (one, other) refl
+
+pub first_fails : (a b : Bool) → a ≡ false → (a && not b) ≡ false
+first_fails a b one = rw one refl
+
+pub second_holds : (a b : Bool) → a ≡ true → b ≡ true → (a && not b) ≡ false
+second_holds a b one other = rw (one, other) refl
+
+-- a price that is read or not
+pub price_passes : (readings : Readings) (row : Row) (structure : Structure) (period tier : ℕ) (part : Part) (value : ℤ)
+    → readings.number price_limit (part_cell row structure period tier part) ≡ Ok value
+    → first_of (price_refusal readings row structure period tier part ∷ []) ≡ None
+unfolding first_of
+price_passes readings row structure period tier part value is = rw is refl
+
+pub price_refuses : (readings : Readings) (row : Row) (structure : Structure) (period tier : ℕ) (part : Part) (fault : DecimalFault) (refused : Refused)
+    → readings.number price_limit (part_cell row structure period tier part) ≡ Err fault
+    → refusal row.header 4 (part_column row structure period tier part) (detail_of fault) ≡ refused
+    → first_of (price_refusal readings row structure period tier part ∷ []) ≡ Some refused
+unfolding first_of
+price_refuses readings row structure period tier part fault refused is same = rw is (ap (λ r. Some r) same)
+
+-- an end that is read or not
+pub last_passes : (readings : Readings) (row : Row) (structure : Structure) (period tier : ℕ) → is_last row structure period tier ≡ true
+    → first_of (end_refusal readings row structure period tier ∷ []) ≡ None
+unfolding first_of
+last_passes readings row structure period tier last = rw last refl
+
+pub end_passes : (readings : Readings) (row : Row) (structure : Structure) (period tier : ℕ) (end : Option ℤ) → is_last row structure period tier ≡ false
+    → readings.end (part_cell row structure period tier Max) ≡ Ok end
+    → first_of (end_refusal readings row structure period tier ∷ []) ≡ None
+unfolding first_of
+end_passes readings row structure period tier end last is = rw (last, is) refl
+
+pub end_refuses : (readings : Readings) (row : Row) (structure : Structure) (period tier : ℕ) (fault : DecimalFault) (refused : Refused)
+    → is_last row structure period tier ≡ false → readings.end (part_cell row structure period tier Max) ≡ Err fault
+    → refusal row.header 4 (part_column row structure period tier Max) (detail_of fault) ≡ refused
+    → first_of (end_refusal readings row structure period tier ∷ []) ≡ Some refused
+unfolding first_of
+end_refuses readings row structure period tier fault refused last is same = rw (last, is) (ap (λ r. Some r) same)

@@ -1,0 +1,110 @@
+-- The terms of a row that isn't refused.
+use Rattle.std.proofs.Common.{◌≡◌, ℕ, pos, ◌-◌, ◌<◌, ◌≤◌, Bool, true, List, [], length, All, Option, None, IsSome, Result, Ok, Err, refl, sym, arith, get_or, inl, inr, subst, replicate}
+use Rattle.std.specs.Bool.{◌==◌}
+use Rattle.std.specs.List.{list_any}
+use Rattle.std.proofs.lemmas.Bool.{eq-eqb}
+use Rattle.std.proofs.lemmas.List.Elements.{All-replicate}
+use Rattle.std.proofs.lemmas.List.Folds.{list_any_at}
+use Rattle.std.proofs.lemmas.List.FromFn.{get_or-map-range_with_len, length-map-range_with_len}
+use Rattle.d_text.proofs.GridFacts.{grid-sizes}
+use Rattle.d_cal.specs.Schedules.{HasPeriods, entry_at}
+use Rattle.d_tier.specs.declared.tier.Tier.{Tier}
+use Rattle.d_tariff.specs.declared.period.Period.{Period}
+use Rattle.d_tariff.specs.declared.charge.Charge.{Charge}
+use Rattle.d_tariff.specs.declared.charge.ChargeUnit.TheVariants.{Month}
+use Rattle.d_tariff.specs.Terms.{Terms, HasEach, period_at}
+use Rattle.d_urdb.specs.declared.names.Structure.TheVariants.{Energy}
+use Rattle.d_urdb.specs.declared.rule.RuleChoice.{RuleChoice}
+use Rattle.d_urdb.specs.Numbers.{Readings, AreReadings, IsHours, zero_hours}
+use Rattle.d_urdb.specs.Tiers.{Row, named_cell, has_tier}
+use Rattle.d_urdb.specs.Periods.{energy_period, energy_periods}
+use Rattle.d_urdb.specs.Hours.{hours_or_0, hours_in, occurs_in, weekday_name, weekend_name}
+use Rattle.d_urdb.specs.Energy.{HasPeriodTiers}
+use Rattle.d_urdb.specs.Record.{row_terms, no_demand, is_hourly}
+
+-- twelve months of 24 hours
+record IsFull (hours : List (List ℕ)) : Type 0 where
+  months : length hours ≡ 12
+  days : All (λ month. length month ≡ 24) hours
+
+zero_full : IsFull zero_hours
+zero_full = record { months = refl; days = All-replicate (λ (month : List ℕ). length month ≡ 24) 12 (replicate 24 0) refl }
+
+hours_full : (cell : List ℕ) (result : Result (List (List ℕ)) ℕ) → IsHours cell result → IsFull (hours_or_0 result)
+hours_full cell (Ok rows) (inl (blank, is)) = subst IsFull (sym is) zero_full
+hours_full cell (Ok rows) (inr grid) = let sizes = grid-sizes cell rows grid in record { months = sizes.0; days = sizes.1 }
+hours_full cell (Err place) (some, fault) = zero_full
+
+schedule_full : (readings : Readings) → AreReadings readings → (row : Row) (name : List ℕ) → IsFull (hours_in readings row name)
+schedule_full readings are row name = hours_full (named_cell row name) (readings.hours (named_cell row name)) (are.hours_is (named_cell row name))
+
+-- the period of each of its hours occurs in a grid
+entry_occurs : (grid : List (List ℕ)) (month hour : ℕ) → IsFull grid → 1 ≤ month → month ≤ 12 → hour < 24
+    → occurs_in (entry_at grid month hour) grid ≡ true
+entry_occurs grid month hour full first last within =
+    let period = entry_at grid month hour in
+    let row_in : month - 1 < length grid = omega (arith, full.months) in
+    let hour_in : hour < length (get_or grid (month - 1) []) = omega (arith, full.days (month - 1) [] row_in) in
+    list_any_at (list_any (λ entry. entry == period)) grid (month - 1) [] row_in
+    (list_any_at (λ entry. entry == period) (get_or grid (month - 1) []) hour 0 hour_in (eq-eqb period period refl))
+
+entry_range : (grid : List (List ℕ)) (month hour : ℕ) → HasPeriods grid → IsFull grid → 1 ≤ month → month ≤ 12 → hour < 24 → entry_at grid month hour ≤ 35
+entry_range grid month hour range full first last within =
+    let row_in : month - 1 < length grid = omega (arith, full.months) in
+    let hour_in : hour < length (get_or grid (month - 1) []) = omega (arith, full.days (month - 1) [] row_in) in
+    range (month - 1) [] row_in hour 0 hour_in
+
+-- a period with a tier is there
+period_there : (readings : Readings) (row : Row) (period : ℕ) → period ≤ 35 → has_tier row Energy period 0 ≡ true → IsSome (period_at (energy_periods readings row) period)
+unfolding energy_periods
+period_there readings row period within there =
+    let entry = get_or-map-range_with_len (energy_period readings row) 0 36 period period None (omega (arith, within)) (omega arith) in
+    rw entry (rw there refl)
+
+each_there : (readings : Readings) (row : Row) (periods : List (Option Period)) (grid : List (List ℕ)) → periods ≡ energy_periods readings row
+    → HasPeriods grid → IsFull grid → HasPeriodTiers row grid → HasEach periods grid
+each_there readings row periods grid is range full tiers month hour first last within =
+    let entry = entry_at grid month hour in
+    rw is (period_there readings row entry (entry_range grid month hour range full first last within)
+    (tiers entry (entry_range grid month hour range full first last within) (entry_occurs grid month hour full first last within)))
+
+-- the hours in a column are in periods that are there
+pub hours_there : (readings : Readings) → AreReadings readings → (row : Row) (name : List ℕ) (periods : List (Option Period)) (grid : List (List ℕ))
+    → periods ≡ energy_periods readings row → grid ≡ hours_in readings row name → HasPeriods grid → HasPeriodTiers row grid → HasEach periods grid
+hours_there readings are row name periods grid is grid_is range tiers =
+    each_there readings row periods grid is range (subst IsFull (sym grid_is) (schedule_full readings are row name)) tiers
+
+pub entries : (readings : Readings) (row : Row) (periods : List (Option Period)) → periods ≡ energy_periods readings row → length periods ≡ 36
+unfolding energy_periods
+entries readings row periods is = rw is (length-map-range_with_len (energy_period readings row) 0 36)
+
+-- terms of which the flat demand periods, the fractions and the minimum are left open
+abbrev pub terms_with : List (Option Period) → List (Option (List Tier)) → List (Option (List Tier)) → List (List ℕ) → List (List ℕ) → List (List ℕ) → List (List ℕ)
+    → Charge → Bool → List ℕ → Terms
+terms_with energy demand flat weekday weekend demand_weekday demand_weekend fixed hourly ignored = record {
+  energy = energy;
+  demand = demand;
+  flat = flat;
+  energy_weekday = weekday;
+  energy_weekend = weekend;
+  demand_weekday = demand_weekday;
+  demand_weekend = demand_weekend;
+  flat_months = replicate 12 0;
+  ratchet = replicate 12 0;
+  fixed = fixed;
+  minimum = None;
+  hourly = hourly;
+  ignored = ignored;
+}
+
+-- terms whose parts are those of the row
+pub row_terms_are : (readings : Readings) (row : Row) (rule : RuleChoice) (energy : List (Option Period)) (demand flat : List (Option (List Tier)))
+    (weekday weekend demand_weekday demand_weekend : List (List ℕ)) (fixed : Charge) (hourly : Bool) (ignored : List ℕ)
+    → energy ≡ energy_periods readings row → demand ≡ no_demand → flat ≡ no_demand → weekday ≡ hours_in readings row weekday_name
+    → weekend ≡ hours_in readings row weekend_name → demand_weekday ≡ zero_hours → demand_weekend ≡ zero_hours
+    → fixed ≡ record { amount = pos 0; unit = Month } → hourly ≡ is_hourly row rule → ignored ≡ []
+    → terms_with energy demand flat weekday weekend demand_weekday demand_weekend fixed hourly ignored ≡ row_terms readings row rule
+unfolding row_terms
+row_terms_are readings row rule energy demand flat weekday weekend demand_weekday demand_weekend fixed hourly ignored
+    energy_is demand_is flat_is weekday_is weekend_is demand_weekday_is demand_weekend_is fixed_is hourly_is ignored_is =
+    λ i. terms_with (energy_is i) (demand_is i) (flat_is i) (weekday_is i) (weekend_is i) (demand_weekday_is i) (demand_weekend_is i) (fixed_is i) (hourly_is i) (ignored_is i)

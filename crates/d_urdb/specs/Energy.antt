@@ -1,0 +1,23 @@
+-- What a record's energy periods and their hours keep where nothing of them is refused.
+use Rattle.std.specs.Prelude.{◌≡◌, ℕ, ◌≤◌, true, List}
+use Rattle.d_cal.specs.declared.schedule.Schedule.{Schedule}
+use Rattle.d_urdb.specs.declared.names.Structure.TheVariants.{Energy}
+use Rattle.d_urdb.specs.Numbers.{Readings, AreReadings}
+use Rattle.d_urdb.specs.Tiers.{Row, has_tier}
+use Rattle.d_urdb.specs.Hours.{weekday_name, weekend_name, hours_in, occurs_in}
+use Rattle.d_urdb.specs.Values.{HasRisingEnds}
+
+-- the ends of the tiers of each energy period rise
+abbrev pub HasRisingPeriods : Row → Type 0
+HasRisingPeriods row = (period : ℕ) → period ≤ 35 → HasRisingEnds row Energy period
+
+-- each period of these hours has a tier
+abbrev pub HasPeriodTiers : Row → List (List ℕ) → Type 0
+HasPeriodTiers row hours = (period : ℕ) → period ≤ 35 → occurs_in period hours ≡ true → has_tier row Energy period 0 ≡ true
+
+-- these are the hours of the row's energy schedules, and their periods have tiers
+pub record AreEnergyHours (row : Row) (hours : Schedule) : Type 0 where
+  pub weekday : (readings : Readings) → AreReadings readings → hours.weekday ≡ hours_in readings row weekday_name
+  pub weekend : (readings : Readings) → AreReadings readings → hours.weekend ≡ hours_in readings row weekend_name
+  pub weekday_tiers : HasPeriodTiers row hours.weekday
+  pub weekend_tiers : HasPeriodTiers row hours.weekend

@@ -1,0 +1,61 @@
+-- How the cells of a record are read: the one reading that each cell has.
+use Rattle.std.specs.Prelude.{◌≡◌, ◌≢◌, ◌⊎◌, ℕ, ◌^◌, ℤ, pos, Bool, true, false, List, [], Option, None, Some, Result, Ok, Err}
+use Rattle.std.proofs.Math.ListN.{replicate}
+use Rattle.d_text.specs.Decimal.{Written, IsDecimalText, IsFormFault, IsInLimit}
+use Rattle.d_text.specs.Fault.{IsDecimalOf, IsDecimalFault, IsFloorOf}
+use Rattle.d_text.specs.Grid.{IsGridOf, IsGridFault}
+use Rattle.d_text.specs.declared.decimal.DecimalFault.{DecimalFault}
+use Rattle.d_text.specs.declared.decimal.DecimalFault.TheVariants.{Empty, Form, TooLarge, TooFine}
+use Rattle.d_urdb.specs.declared.names.Structure.{Structure}
+use Rattle.d_urdb.specs.Tiers.{Row, IsLeastHole}
+
+-- an amount of USD in units of 10^-18 USD, at most `limit` USD in size, or why the cell has none; a blank cell is 0
+abbrev pub IsNumber : ℕ → List ℕ → Result ℤ DecimalFault → Type 0
+IsNumber limit cell (Ok value) = ((cell ≡ []) × (value ≡ pos 0)) ⊎ IsDecimalOf cell 18 limit value
+IsNumber limit cell (Err fault) = (cell ≢ []) × IsDecimalFault cell 18 limit fault
+
+-- the cell is a decimal above the limit of a tier's end in size, with a minus or none
+pub record IsBeyond (cell : List ℕ) (minus : Bool) : Type 0 where
+  pub written : Written
+  pub form : IsDecimalText cell written
+  pub beyond : IsInLimit written 3 (10 ^ 10) → ⊥
+  pub sign : written.minus ≡ minus
+
+-- a tier's end in kWh or kW, in whole Wh or W, rounded down: one above 10^10 kWh means that the tier has no end (writers put 1e+38
+-- there); a blank cell is 0
+abbrev pub IsEnd : List ℕ → Result (Option ℤ) DecimalFault → Type 0
+IsEnd cell (Ok (Some end)) = ((cell ≡ []) × (end ≡ pos 0)) ⊎ IsFloorOf cell 3 (10 ^ 10) end
+IsEnd cell (Ok None) = IsBeyond cell false
+IsEnd cell (Err Empty) = ⊥
+IsEnd cell (Err (Form place)) = IsFormFault cell place
+IsEnd cell (Err TooLarge) = IsBeyond cell true
+IsEnd cell (Err TooFine) = ⊥
+
+-- period 0 in each hour
+abbrev pub zero_hours : List (List ℕ)
+zero_hours = replicate 12 (replicate 24 0)
+
+-- the periods of each month's hours, or the place at which the cell is no grid; a blank cell is period 0 everywhere
+abbrev pub IsHours : List ℕ → Result (List (List ℕ)) ℕ → Type 0
+IsHours cell (Ok rows) = ((cell ≡ []) × (rows ≡ zero_hours)) ⊎ IsGridOf cell rows
+IsHours cell (Err place) = (cell ≢ []) × IsGridFault cell place
+
+-- how all cells are read
+pub record Readings : Type 0 where
+  pub number : ℕ → List ℕ → Result ℤ DecimalFault
+  pub end : List ℕ → Result (Option ℤ) DecimalFault
+  pub hours : List ℕ → Result (List (List ℕ)) ℕ
+  pub hole : Row → Structure → ℕ → Option ℕ
+
+-- each cell is read as it has to be
+pub record AreReadings (readings : Readings) : Type 0 where
+  pub number_is : (limit : ℕ) (cell : List ℕ) → IsNumber limit cell (readings.number limit cell)
+  pub end_is : (cell : List ℕ) → IsEnd cell (readings.end cell)
+  pub hours_is : (cell : List ℕ) → IsHours cell (readings.hours cell)
+  pub hole_is : (row : Row) (structure : Structure) (period : ℕ) → IsLeastHole row structure period (readings.hole row structure period)
+
+-- there is one way to read all cells, and no other
+pub record HasOneReading : Type 0 where
+  pub readings : Readings
+  pub are : AreReadings readings
+  pub only : (others : Readings) → AreReadings others → others ≡ readings

@@ -1,0 +1,18 @@
+-- What the tiers of a period keep where nothing of them is refused.
+use Rattle.std.specs.Prelude.{◌≡◌, ℕ, suc, ◌*◌, ◌^◌, ◌<◌, true, List, All, None}
+use Rattle.d_num.specs.Amount.{IsWithin}
+use Rattle.d_tier.specs.declared.tier.Tier.{Tier}
+use Rattle.d_urdb.specs.declared.names.Structure.{Structure}
+use Rattle.d_urdb.specs.Numbers.{Readings, AreReadings}
+use Rattle.d_urdb.specs.Tiers.{Row, IsLeastHole, has_tier}
+use Rattle.d_urdb.specs.Periods.{is_above, begin_of, end_of}
+
+-- no tier is there without the one before it, and each but the last ends above where it begins
+pub record HasRisingEnds (row : Row) (structure : Structure) (period : ℕ) : Type 0 where
+  pub no_hole : IsLeastHole row structure period None
+  pub rising : (readings : Readings) → AreReadings readings → (tier : ℕ) → tier < 16 → has_tier row structure period (suc tier) ≡ true
+      → is_above (begin_of readings row structure period tier) (end_of readings row structure period tier) ≡ true
+
+-- prices are at most 2000 USD in size
+abbrev pub HasPrices : List Tier → Type 0
+HasPrices tiers = All (λ tier. IsWithin (2 * 10 ^ 21) tier.price) tiers

@@ -1,0 +1,278 @@
+//! The rules that a record's periods keep.
+
+ghost use Rattle.std.specs.Prelude.{◌≡◌, ◌≤◌, OnOk, [], ◌∷◌, false};
+ghost use Rattle.d_urdb.specs.Shown.{row_of};
+ghost use Rattle.d_urdb.specs.Tiers.{IsLeastHole, has_tier, is_hole, part_column};
+ghost use Rattle.d_urdb.specs.Numbers.{Readings, AreReadings};
+ghost use Rattle.d_urdb.specs.Periods as spec;
+ghost use Rattle.d_urdb.specs.Values.{HasRisingEnds};
+ghost use Rattle.d_urdb.specs.Checks.{Checks, ChecksOrNot, IsHoleCheck, IsInnerHole, tier_refusals};
+ghost use Rattle.d_urdb.specs.Refusals.{each};
+
+use crate::fault::{RecordFault, Refused};
+use crate::names::{Part, Structure};
+use crate::number::{fault_detail, read_end, read_number};
+use crate::past::past_last_column;
+use crate::reading::is_named;
+use crate::row::Record;
+use crate::tier_rule::TierRule;
+use std::alloc::Global;
+
+/// The most USD per kWh or kW that a price may be in size.
+pub(crate) const PRICE_LIMIT: u64 = 1000;
+
+/// How many tiers a period has room for.
+pub(crate) const TIERS: u8 = 16;
+
+impl<'a> Record<'a> {
+    /// Tests the rules of a period, in order.
+    pub(crate) fn check_period(
+        &self,
+        alloc: Global,
+        structure: Structure,
+        period: u8,
+    ) -> Result<(), RecordFault>
+        requires { period ≤ 35 }
+        ensures refusals { ChecksOrNot (λ readings. spec.period_refusals readings (row_of self.now) structure period) result }
+        ensures rising { OnOk result (HasRisingEnds (row_of self.now) structure period) }
+    {
+        self.check_holes(alloc, structure, period)?;
+        self.check_tiers(TierRule::Numbers, structure, period)?;
+        self.check_tiers(TierRule::Units, structure, period)?;
+        self.check_tiers(TierRule::Order, structure, period)?;
+        self.check_tiers(TierRule::Sells, structure, period)?;
+        Ok(())
+    }
+
+    /// Tests that no tier is there without the one before it.
+    fn check_holes(
+        &self,
+        alloc: Global,
+        structure: Structure,
+        period: u8,
+    ) -> Result<(), RecordFault>
+        requires { period ≤ 35 }
+        ensures { IsHoleCheck (row_of self.now) structure period result }
+    {
+        if let Some(tier) = self.inner_hole(structure, period) {
+            let column = self.first_filled(structure, period, tier);
+            return Err(RecordFault::Refused(self.refusal(7, column, 0)));
+        }
+        if self.index.may_pass_last(structure, period) {
+            let found = past_last_column(alloc, self.table, self.row, structure, period)?;
+            if let Some(column) = found {
+                return Err(RecordFault::Refused(self.refusal(7, Some(column), 0)));
+            }
+        }
+        Ok(())
+    }
+
+    /// The least of the tiers 1 to 15 that is there without the one before it.
+    fn inner_hole(&self, structure: Structure, period: u8) -> Option<u8>
+        requires { period ≤ 35 }
+        ensures { IsInnerHole (row_of self.now) structure period result }
+    {
+        for tier in 1..TIERS {
+            if self.is_hole(structure, period, tier) {
+                return Some(tier);
+            }
+        }
+        None
+    }
+
+    /// Whether one of the tiers 1 to 15 is there without the one before it.
+    fn is_hole(&self, structure: Structure, period: u8, tier: u8) -> bool
+        requires period { period ≤ 35 }
+        requires tier { (1 ≤ tier) × (tier ≤ 15) }
+        ensures { result ≡ is_hole (row_of self.now) structure period tier }
+    {
+        let before = self.has_tier(structure, period, tier - 1);
+        self.has_tier(structure, period, tier) && !before
+    }
+
+    /// Tests a rule for each tier of a period.
+    fn check_tiers(&self, rule: TierRule, structure: Structure, period: u8) -> Result<(), Refused>
+        requires period { period ≤ 35 }
+        requires few { has_tier (row_of self.now) structure period 16 ≡ false }
+        ensures { Checks (λ readings. each 16 (tier_refusals rule readings (row_of self.now) structure period)) result }
+    {
+        for tier in 0..TIERS {
+            self.check_tier(rule, structure, period, tier)?;
+        }
+        Ok(())
+    }
+
+    /// Tests a rule for a tier.
+    fn check_tier(
+        &self,
+        rule: TierRule,
+        structure: Structure,
+        period: u8,
+        tier: u8,
+    ) -> Result<(), Refused>
+        requires period { period ≤ 35 }
+        requires tier { tier ≤ 15 }
+        requires few { has_tier (row_of self.now) structure period 16 ≡ false }
+        ensures { Checks (λ readings. tier_refusals rule readings (row_of self.now) structure period tier) result }
+    {
+        match rule {
+            TierRule::Numbers => self.check_numbers(structure, period, tier),
+            TierRule::Units => self.check_unit(structure, period, tier),
+            TierRule::Order => self.check_order(structure, period, tier),
+            TierRule::Sells => self.check_sell(structure, period, tier),
+        }
+    }
+
+    /// Tests that a tier's numbers can be read.
+    fn check_numbers(&self, structure: Structure, period: u8, tier: u8) -> Result<(), Refused>
+        requires period { period ≤ 35 }
+        requires tier { tier ≤ 15 }
+        requires few { has_tier (row_of self.now) structure period 16 ≡ false }
+        ensures { Checks (λ readings. spec.number_refusals readings (row_of self.now) structure period tier) result }
+    {
+        self.check_end(structure, period, tier)?;
+        self.check_number(structure, period, tier, Part::Rate)?;
+        self.check_number(structure, period, tier, Part::Adj)?;
+        self.check_number(structure, period, tier, Part::Sell)
+    }
+
+    /// Tests that the end of a tier can be read, unless it is the last.
+    fn check_end(&self, structure: Structure, period: u8, tier: u8) -> Result<(), Refused>
+        requires period { period ≤ 35 }
+        requires tier { tier ≤ 15 }
+        requires few { has_tier (row_of self.now) structure period 16 ≡ false }
+        ensures { Checks (λ readings. spec.end_refusal readings (row_of self.now) structure period tier ∷ []) result }
+    {
+        if self.is_last(structure, period, tier) {
+            return Ok(());
+        }
+        match read_end(self.part_cell(structure, period, tier, Part::Max)) {
+            Ok(_) => Ok(()),
+            Err(fault) => {
+                let column = self.part_column(structure, period, tier, Part::Max);
+                Err(self.refusal(4, column, fault_detail(fault)))
+            }
+        }
+    }
+
+    /// Tests that a price of a tier can be read.
+    fn check_number(
+        &self,
+        structure: Structure,
+        period: u8,
+        tier: u8,
+        part: Part,
+    ) -> Result<(), Refused>
+        requires period { period ≤ 35 }
+        requires tier { tier ≤ 15 }
+        ensures { Checks (λ readings. spec.price_refusal readings (row_of self.now) structure period tier part ∷ []) result }
+    {
+        match read_number(self.part_cell(structure, period, tier, part), PRICE_LIMIT) {
+            Ok(_) => Ok(()),
+            Err(fault) => {
+                let column = self.part_column(structure, period, tier, part);
+                Err(self.refusal(4, column, fault_detail(fault)))
+            }
+        }
+    }
+
+    /// Whether a tier is the last of its period.
+    pub(crate) fn is_last(&self, structure: Structure, period: u8, tier: u8) -> bool
+        requires period { period ≤ 35 }
+        requires tier { tier ≤ 15 }
+        requires few { has_tier (row_of self.now) structure period 16 ≡ false }
+        ensures { result ≡ spec.is_last (row_of self.now) structure period tier }
+    {
+        tier + 1 == TIERS || !self.has_tier(structure, period, tier + 1)
+    }
+
+    /// Tests the unit of a tier.
+    fn check_unit(&self, structure: Structure, period: u8, tier: u8) -> Result<(), Refused>
+        requires period { period ≤ 35 }
+        requires tier { tier ≤ 15 }
+        ensures { Checks (λ readings. spec.unit_refusal (row_of self.now) structure period tier ∷ []) result }
+    {
+        if self.has_other_unit(structure, period, tier) {
+            let column = self.part_column(structure, period, tier, Part::Unit);
+            return Err(self.refusal(9, column, 0));
+        }
+        Ok(())
+    }
+
+    /// Whether the unit of a tier isn't kWh, where the period has two tiers or more.
+    fn has_other_unit(&self, structure: Structure, period: u8, tier: u8) -> bool
+        requires period { period ≤ 35 }
+        requires tier { tier ≤ 15 }
+        ensures { result ≡ spec.has_other_unit (row_of self.now) structure period tier }
+    {
+        self.has_tier(structure, period, 1)
+            && !is_kwh(self.part_cell(structure, period, tier, Part::Unit))
+    }
+
+    /// Tests that a tier ends above where it begins, unless it is the last.
+    fn check_order(&self, structure: Structure, period: u8, tier: u8) -> Result<(), Refused>
+        requires period { period ≤ 35 }
+        requires tier { tier ≤ 15 }
+        requires few { has_tier (row_of self.now) structure period 16 ≡ false }
+        ensures { Checks (λ readings. spec.order_refusal readings (row_of self.now) structure period tier ∷ []) result }
+    {
+        if self.breaks_order(structure, period, tier) {
+            let column = self.part_column(structure, period, tier, Part::Max);
+            return Err(self.refusal(8, column, 0));
+        }
+        Ok(())
+    }
+
+    /// Whether a tier other than the last doesn't end above where it begins.
+    fn breaks_order(&self, structure: Structure, period: u8, tier: u8) -> bool
+        requires period { period ≤ 35 }
+        requires tier { tier ≤ 15 }
+        requires few { has_tier (row_of self.now) structure period 16 ≡ false }
+        ensures { (readings : Readings) → AreReadings readings → result ≡ spec.breaks_order readings (row_of self.now) structure period tier }
+    {
+        let begin = self.begin_of(structure, period, tier);
+        let end = self.end_of(structure, period, tier);
+        !self.is_last(structure, period, tier) && !is_above(begin, end)
+    }
+
+    /// Tests that a tier's sell rate is its period's.
+    fn check_sell(&self, structure: Structure, period: u8, tier: u8) -> Result<(), Refused>
+        requires period { period ≤ 35 }
+        requires tier { tier ≤ 15 }
+        ensures { Checks (λ readings. spec.sell_refusal readings (row_of self.now) structure period tier ∷ []) result }
+    {
+        if self.has_other_sell(structure, period, tier) {
+            let column = self.part_column(structure, period, tier, Part::Sell);
+            return Err(self.refusal(10, column, 0));
+        }
+        Ok(())
+    }
+
+    /// Whether a sell rate that is given isn't the period's.
+    fn has_other_sell(&self, structure: Structure, period: u8, tier: u8) -> bool
+        requires period { period ≤ 35 }
+        requires tier { tier ≤ 15 }
+        ensures { (readings : Readings) → AreReadings readings → result ≡ spec.has_other_sell readings (row_of self.now) structure period tier }
+    {
+        let price = self.price_in(structure, period, tier, Part::Sell);
+        let sell = self.sell_of(structure, period);
+        self.is_filled(structure, period, tier, Part::Sell) && price != sell
+    }
+}
+
+/// Whether both are there, and the second is above the first.
+fn is_above(begin: Option<i64>, end: Option<i64>) -> bool
+    ensures { result ≡ spec.is_above begin end }
+{
+    match (begin, end) {
+        (Some(begin), Some(end)) => begin < end,
+        _ => false,
+    }
+}
+
+/// Whether the cell is an accepted unit of a tier.
+fn is_kwh(cell: &[u8]) -> bool
+    ensures { result ≡ spec.is_kwh cell.now }
+{
+    cell.is_empty() || is_named(cell, b"kwh")
+}

@@ -1,0 +1,49 @@
+//! The record of a label.
+
+ghost use Rattle.std.specs.Prelude.{◌≡◌, ◌+◌, ◌<◌, length, None, Err, IfOk, IfErr};
+ghost use Rattle.d_table.specs.Table.{row_at};
+ghost use Rattle.d_urdb.specs.declared.rule.RuleChoice.{RuleChoice};
+ghost use Rattle.d_urdb.specs.Numbers.{Readings};
+ghost use Rattle.d_urdb.specs.Refusals as spec;
+ghost use Rattle.d_urdb.specs.Record.{record_outcome, row_outcome};
+ghost use Rattle.d_urdb.specs.Tiers.{data_row};
+
+use crate::fault::Refused;
+use d_table::Table;
+
+/// The row of the record with this label, or why there is none: its number in the table's data rows, from 0.
+pub(crate) fn find_row(table: &Table, label: &[u8]) -> Result<usize, Refused>
+    ensures there { IfOk result (λ row. row + 1 < length table.now) }
+    ensures row { IfOk result (λ row. (readings : Readings) (rule : RuleChoice) →
+        record_outcome readings table.now label.now rule ≡ row_outcome readings (data_row table.now row) rule) }
+    ensures refused { IfErr result (λ refused. (readings : Readings) (rule : RuleChoice) →
+        record_outcome readings table.now label.now rule ≡ Err refused) }
+{
+    let Some(column) = table.position(b"label") else {
+        return Err(refusal(table, 3));
+    };
+    let mut found = None;
+    for row in 0..table.rows() {
+        if table.cell(row, column) == label {
+            if found.is_some() {
+                return Err(refusal(table, 2));
+            }
+            found = Some(row);
+        }
+    }
+    match found {
+        Some(row) => Ok(row),
+        None => Err(refusal(table, 1)),
+    }
+}
+
+/// A refusal that names no column.
+fn refusal(table: &Table, number: u8) -> Refused
+    ensures { result ≡ spec.refusal (row_at table.now 0) number None 0 }
+{
+    Refused {
+        number,
+        column: table.columns(),
+        detail: 0,
+    }
+}

@@ -1,0 +1,82 @@
+//! The rule of billing.
+
+ghost use Rattle.std.specs.Prelude.{◌≡◌, not, ◌&&◌, ◌||◌, codes};
+ghost use Rattle.d_urdb.specs.declared.rule.RuleChoice.TheVariants.{AsRecorded};
+ghost use Rattle.d_urdb.specs.Checks.{Checks};
+ghost use Rattle.d_urdb.specs.Record as spec;
+ghost use Rattle.d_urdb.specs.Shown.{row_of};
+ghost use Rattle.d_urdb.specs.Tiers.{named_cell, is_filled};
+
+use crate::fault::Refused;
+use crate::reading::is_named;
+use crate::row::Record;
+
+/// Which rule a record is planned by.
+#[derive(Clone, Copy, PartialEq, Eq, Debug)]
+pub enum RuleChoice {
+    /// The one that it says.
+    AsRecorded,
+    /// Net billing by the interval, whatever it says.
+    NetBilling,
+}
+
+impl<'a> Record<'a> {
+    /// Tests the record's rule of billing.
+    #[tactic(auto, unfolding(crate::specs::Refusals::first_of))]
+    pub(crate) fn check_rule(&self, rule: RuleChoice) -> Result<(), Refused>
+        ensures { Checks (λ readings. spec.rule_refusals (row_of self.now) rule) result }
+    {
+        match rule {
+            RuleChoice::AsRecorded => self.check_recorded_rule(),
+            RuleChoice::NetBilling => Ok(()),
+        }
+    }
+
+    /// Whether energy is settled hour by hour.
+    pub(crate) fn is_hourly(&self, rule: RuleChoice) -> bool
+        ensures { result ≡ spec.is_hourly (row_of self.now) rule }
+    {
+        rule == RuleChoice::AsRecorded && self.says_rule(b"net billing hourly")
+    }
+
+    /// Tests the rule that the record says.
+    #[tactic(auto, unfolding(crate::specs::Refusals::first_of))]
+    fn check_recorded_rule(&self) -> Result<(), Refused>
+        ensures { Checks (λ readings. spec.rule_refusals (row_of self.now) AsRecorded) result }
+    {
+        if self.says_rule(b"net metering") {
+            return Err(self.rule_refusal(13));
+        }
+        if self.says_rule(b"buy all sell all") {
+            return Err(self.rule_refusal(14));
+        }
+        if self.says_unknown_rule() {
+            return Err(self.rule_refusal(21));
+        }
+        Ok(())
+    }
+
+    /// Whether the record says a rule, and none of net billing.
+    fn says_unknown_rule(&self) -> bool
+        ensures { result ≡ (is_filled (named_cell (row_of self.now) spec.rule_name)
+            && not (spec.says_rule (row_of self.now) (codes "net billing instantaneous") || spec.says_rule (row_of self.now) (codes "net billing hourly"))) }
+    {
+        !self.named_cell(b"dgrules").is_empty()
+            && !self.says_rule(b"net billing instantaneous")
+            && !self.says_rule(b"net billing hourly")
+    }
+
+    /// Whether the record's rule is this text, ASCII case ignored. The text is in small letters.
+    fn says_rule(&self, text: &[u8]) -> bool
+        ensures { result ≡ spec.says_rule (row_of self.now) text.now }
+    {
+        is_named(self.named_cell(b"dgrules"), text)
+    }
+
+    /// A refusal that names the column of the rule.
+    fn rule_refusal(&self, number: u8) -> Refused
+        ensures { result ≡ spec.rule_refusal (row_of self.now) number }
+    {
+        self.refusal(number, self.position(b"dgrules"), 0)
+    }
+}

@@ -1,0 +1,173 @@
+//! What the cells of a record's periods say.
+
+ghost use Rattle.std.specs.Prelude.{◌≡◌, ℕ, ◌≤◌, ◌<◌, ◌-◌, ◌*◌, ◌^◌, ◌∷◌, [], true, false, Some, None, length, map, option_map, pos, ℤ, ◌≤ℤ◌, IfOk, IfSome, All};
+ghost use Rattle.std.specs.Option.{ForSome};
+ghost use Rattle.std.specs.List.{range_with_len};
+ghost use Rattle.d_num.specs.Amount.{IsWithin};
+ghost use Rattle.d_tariff.specs.Terms.{HasEnergyPrices};
+ghost use Rattle.d_urdb.specs.Numbers.{Readings, AreReadings};
+ghost use Rattle.d_urdb.specs.Shown.{row_of};
+ghost use Rattle.d_urdb.specs.Tiers.{Row, IsLeastHole, has_tier};
+ghost use Rattle.d_urdb.specs.Periods as spec;
+ghost use Rattle.d_urdb.specs.Values.{HasRisingEnds, HasPrices};
+
+use crate::checks::{PRICE_LIMIT, TIERS};
+use crate::names::{Part, Structure};
+use crate::number::{read_end, read_number};
+use crate::row::Record;
+use d_num::{NoMemory, Rate};
+use d_tariff::{Period, Periods};
+use d_tier::Tiers;
+use std::alloc::Global;
+
+const PERIODS: u8 = 36;
+
+impl<'a> Record<'a> {
+    /// The price in a part of a tier; 0 where none can be read.
+    pub(crate) fn price_in(&self, structure: Structure, period: u8, tier: u8, part: Part) -> Rate
+        requires period { period ≤ 35 }
+        requires tier { tier ≤ 15 }
+        ensures value { (readings : Readings) → AreReadings readings → result ≡ spec.part_price readings (row_of self.now) structure period tier part }
+        ensures range { IsWithin (10 ^ 21) result }
+    {
+        match read_number(self.part_cell(structure, period, tier, part), PRICE_LIMIT) {
+            Ok(price) => rate_of(price),
+            Err(_) => rate_of(0),
+        }
+    }
+
+    /// What a tier costs: its rate and what is added to that.
+    fn price_of(&self, structure: Structure, period: u8, tier: u8) -> Rate
+        requires period { period ≤ 35 }
+        requires tier { tier ≤ 15 }
+        ensures value { (readings : Readings) → AreReadings readings → result ≡ spec.price_of readings (row_of self.now) structure period tier }
+        ensures range { IsWithin (2 * 10 ^ 21) result }
+    {
+        let rate = self.price_in(structure, period, tier, Part::Rate);
+        let added = self.price_in(structure, period, tier, Part::Adj);
+        rate.plus(added)
+    }
+
+    /// Where a tier ends; None where it has no end or none can be read.
+    pub(crate) fn end_of(&self, structure: Structure, period: u8, tier: u8) -> Option<i64>
+        requires period { period ≤ 35 }
+        requires tier { tier ≤ 15 }
+        ensures value { (readings : Readings) → AreReadings readings → result ≡ spec.end_of readings (row_of self.now) structure period tier }
+        ensures range { IfSome result (IsWithin (10 ^ 13)) }
+    {
+        match read_end(self.part_cell(structure, period, tier, Part::Max)) {
+            Ok(end) => end,
+            Err(_) => None,
+        }
+    }
+
+    /// Where a tier begins.
+    pub(crate) fn begin_of(&self, structure: Structure, period: u8, tier: u8) -> Option<i64>
+        requires period { period ≤ 35 }
+        requires tier { tier ≤ 15 }
+        ensures { (readings : Readings) → AreReadings readings → result ≡ spec.begin_of readings (row_of self.now) structure period tier }
+    {
+        if tier == 0 {
+            Some(0)
+        } else {
+            self.end_of(structure, period, tier - 1)
+        }
+    }
+
+    /// What a period pays for energy sent out.
+    pub(crate) fn sell_of(&self, structure: Structure, period: u8) -> Rate
+        requires { period ≤ 35 }
+        ensures value { (readings : Readings) → AreReadings readings → result ≡ spec.sell_of readings (row_of self.now) structure period }
+        ensures range { IsWithin (10 ^ 21) result }
+    {
+        match self.first_sell(structure, period) {
+            Some(tier) => self.price_in(structure, period, tier, Part::Sell),
+            None => rate_of(0),
+        }
+    }
+
+    /// The first tier whose sell rate is given.
+    fn first_sell(&self, structure: Structure, period: u8) -> Option<u8>
+        requires { period ≤ 35 }
+        ensures value { result ≡ spec.first_sell (row_of self.now) structure period }
+        ensures range { IfSome result (λ tier. tier ≤ 15) }
+    {
+        for tier in 0..TIERS {
+            if self.is_filled(structure, period, tier, Part::Sell) {
+                return Some(tier);
+            }
+        }
+        None
+    }
+
+    /// The tiers of a period, neighbours of one price joined.
+    pub(crate) fn tiers(&self, structure: Structure, period: u8) -> Tiers
+        requires period { period ≤ 35 }
+        requires rising { HasRisingEnds (row_of self.now) structure period }
+        ensures value { (readings : Readings) → AreReadings readings → result ≡ spec.tiers_to readings (row_of self.now) structure period 15 }
+        ensures prices { HasPrices result }
+    {
+        let mut tiers = Tiers::one(self.price_of(structure, period, 0));
+        for tier in 1..TIERS {
+            self.add_tier(&mut tiers, structure, period, tier);
+        }
+        tiers
+    }
+
+    /// Adds a tier that is there to those before it.
+    fn add_tier(&self, tiers: &mut Tiers, structure: Structure, period: u8, tier: u8)
+        requires period { period ≤ 35 }
+        requires tier { (1 ≤ tier) × (tier ≤ 15) }
+        requires rising { HasRisingEnds (row_of self.now) structure period }
+        requires before { (readings : Readings) → AreReadings readings → tiers.old ≡ spec.tiers_to readings (row_of self.now) structure period (tier - 1) }
+        requires prices { HasPrices tiers.old }
+        ensures value { (readings : Readings) → AreReadings readings → tiers.new ≡ spec.tiers_to readings (row_of self.now) structure period tier }
+        ensures prices { HasPrices tiers.new }
+    {
+        if !self.has_tier(structure, period, tier) {
+            return;
+        }
+        if let Some(end) = self.end_of(structure, period, tier - 1) {
+            tiers.add(end, self.price_of(structure, period, tier));
+        }
+    }
+
+    /// An energy period, or None where it has no tier.
+    fn energy_period(&self, period: u8) -> Option<Period>
+        requires period { period ≤ 35 }
+        requires rising { HasRisingEnds (row_of self.now) Structure.Energy period }
+        ensures value { (readings : Readings) → AreReadings readings → result ≡ spec.energy_period readings (row_of self.now) period }
+        ensures prices { IfSome result HasEnergyPrices }
+    {
+        if !self.has_tier(Structure::Energy, period, 0) {
+            return None;
+        }
+        let tiers = self.tiers(Structure::Energy, period);
+        let sell = self.sell_of(Structure::Energy, period);
+        Some(Period { tiers, sell })
+    }
+
+    /// All energy periods by their numbers.
+    pub(crate) fn energy_periods(&self, alloc: Global) -> Result<Periods, NoMemory>
+        requires { (period : ℕ) → period ≤ 35 → HasRisingEnds (row_of self.now) Structure.Energy period }
+        ensures value { IfOk result (λ periods. (readings : Readings) → AreReadings readings → periods ≡ spec.energy_periods readings (row_of self.now)) }
+        ensures prices { IfOk result (λ periods. All (λ period. ForSome period HasEnergyPrices) periods) }
+    {
+        let mut periods = Periods::new(alloc);
+        for period in 0..PERIODS {
+            periods.add(self.energy_period(period))?;
+        }
+        Ok(periods)
+    }
+}
+
+/// The rate of so many units of 10^-18 USD.
+fn rate_of(units: i128) -> Rate
+    requires { IsWithin (10 ^ 21) units }
+    ensures { result ≡ units }
+{
+    match Rate::new(units) {
+        Some(rate) => rate,
+        None => unreachable!(),
+    }
+}
