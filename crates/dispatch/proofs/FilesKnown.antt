@@ -1,19 +1,16 @@
 -- Each file's rows have one value, or one refusal.
 use Rattle.std.proofs.Common.{◌≡◌, ◌⊎◌, inl, inr, ℕ, ◌*◌, ◌^◌, ◌<◌, ℤ, pos, List, length, get_or, refl, ap, subst, ◌∙◌, arith}
-use Rattle.std.proofs.lemmas.Int.{ints}
 use Rattle.std.proofs.lemmas.List.{get_or_default}
 use Rattle.jiff_core.specs.Calendar.{days_in_month}
 use Rattle.jiff_core.proofs.CalendarLemmas.{days_in_month_bounds}
-use Rattle.d_num.specs.Amount.{IsWithin}
-use Rattle.d_text.proofs.DecimalLaws.{decimal_within}
-use Rattle.d_table.specs.Table.{cell_in, row_at, IsRectangular}
+use Rattle.d_num.specs.Amount.{IsWithin, IsRate}
+use Rattle.d_table.specs.Table.{row_at, IsRectangular}
 use Rattle.d_model.specs.declared.schedule.ScheduleFault.{ScheduleFault}
 use Rattle.d_model.specs.declared.schedule.ScheduleFault.TheVariants.{Shape}
 use Rattle.d_model.specs.Storage.{Storage, IsStorage}
 use Rattle.d_model.specs.Inputs.{Inputs, IsInRange}
 use Rattle.d_model.specs.Law.{HasOneSchedule, HasOneFault}
 use Rattle.d_model.proofs.ScheduleFound.{read_once}
-use Rattle.dispatch.specs.Record.{IsRecord}
 use Rattle.dispatch.specs.ReadingsFile.{Hourly, IsHourly}
 use Rattle.dispatch.specs.BatteryFile.{IsBatteryFile}
 use Rattle.dispatch.specs.Answer.{Answer, refused, RefusesReadings, RefusesBattery, RefusesSchedule, MeansSchedule, hourly_inputs}
@@ -74,12 +71,11 @@ schedule_known i rows fine = by_shape (each_item (λ row. length row ≡ length 
     by_shape (fails none) = known_refused (refused (Schedule Shape)) (inl (none, refl)) (shape_only none) (λ value means. none means.0)
 
 -- what the files mean is in range
-pub hourly_in_range : (records : List (List (List ℕ))) (label : List ℕ) (readings stored : List (List (List ℕ))) (price : ℤ) (month : Hourly) (storage : Storage)
-    → IsRecord records label price → IsHourly readings month → IsBatteryFile stored storage → IsInRange (hourly_inputs price month storage)
-hourly_in_range records label readings stored price month storage is_record is_month battery =
+pub hourly_in_range : (readings stored : List (List (List ℕ))) (price : ℤ) (month : Hourly) (storage : Storage)
+    → IsRate price → IsHourly readings month → IsBatteryFile stored storage → IsInRange (hourly_inputs price month storage)
+hourly_in_range readings stored price month storage fair is_month battery =
     let days = days_in_month_bounds month.year month.number in
     let whole : length month.net ≡ days_in_month month.year month.number * 24 = is_month.readings.whole in
-    let small : IsWithin (1000 * 10 ^ 18) price = decimal_within (cell_in (row_at records 1) is_record.price_at) 18 1000 price is_record.price_is in
     record {
       month = is_month.month;
       minutes = inr (inr refl);
@@ -87,13 +83,10 @@ hourly_in_range records label readings stored price month storage is_record is_m
       some_interval = omega (arith, whole, days.1);
       few_intervals = omega (arith, whole, days.0);
       net = λ t d lt. net_small t d lt;
-      price = wider price small;
+      price = fair;
       storage = battery.valid;
     }
   where
-    wider : (z : ℤ) → IsWithin (1000 * 10 ^ 18) z → IsWithin (10 ^ 22) z
-    wider z within = (omega (arith, ints, within.0), omega (arith, ints, within.1))
-
     net_small : (t : ℕ) (d : ℤ) → t < length month.net → IsWithin (10 ^ 9) (get_or month.net t d)
     net_small t d lt =
         let row = is_month.readings.each t lt in

@@ -23,6 +23,9 @@ pub mod DecimalFound
 pub mod WordPlaces
 pub mod RequestFound
 pub mod RecordFound
+pub mod RecordRates
+pub mod PriceFound
+pub mod PriceStages
 pub mod MonthFound
 pub mod EntryFound
 pub mod BatteryFound

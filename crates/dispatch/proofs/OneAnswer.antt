@@ -7,19 +7,23 @@ use Rattle.d_model.specs.Bills.{IsFirstLeast, bill_of}
 use Rattle.d_model.proofs.Laws.{first_least_same, break_excludes, first_break_same}
 use Rattle.dispatch.specs.Words.{Asked, Wanted, IsRequest, plan_with, metered_bill as wants_metered_bill, schedule_bill}
 use Rattle.dispatch.specs.Text.{plan_text, bill_text, break_text}
-use Rattle.dispatch.specs.Record.{IsRecord}
+use Rattle.d_num.specs.Amount.{IsRate}
+use Rattle.d_tariff.specs.Terms.{Terms}
+use Rattle.dispatch.specs.Record.{IsRecord, IsOnePrice}
 use Rattle.dispatch.specs.BatteryFile.{IsBatteryFile}
 use Rattle.dispatch.specs.ReadingsFile.{Hourly, IsHourly}
-use Rattle.dispatch.specs.Answer.{Answer, Reads, is_too_long, is_refused, goes_on, says, after_opening, refused, IsPlanned, no_schedule, least, IsBilled, billed, broken, IsFor, IsWithPrice, IsAnswerTo, IsAnswer, no_request, request, hourly_inputs, rows_in, ReadsSchedule, RefusesRecord, RefusesReadings, RefusesBattery, RefusesSchedule, MeansSchedule}
+use Rattle.dispatch.specs.Answer.{Answer, Reads, is_too_long, is_refused, goes_on, says, after_opening, refused, IsPlanned, no_schedule, least, IsBilled, billed, broken, IsFor, IsPriced, no_price, one_price, IsWithTerms, IsAnswerTo, IsAnswer, no_request, request, hourly_inputs, rows_in, ReadsSchedule, RefusesRecord, RefusesReadings, RefusesBattery, RefusesSchedule, MeansSchedule}
 use Rattle.dispatch.specs.Law.{HasAnswer}
 use Rattle.dispatch.specs.declared.verdict.Verdict.TheVariants as verdict
 use Rattle.dispatch.specs.declared.fault.Refusal.{Refusal}
-use Rattle.dispatch.specs.declared.fault.Refusal.TheVariants.{Words, LongRecord, LongReadings, LongBattery, LongSchedule}
+use Rattle.dispatch.specs.declared.fault.Refusal.TheVariants.{Words, LongRecord, LongReadings, NotYet, LongBattery, LongSchedule}
 use Rattle.dispatch.proofs.StageFacts.{IsKnown, known_refused, known_value}
 use Rattle.dispatch.proofs.LeastWays.{exists_least}
 use Rattle.dispatch.proofs.Deciding.{Decided, holds, fails, Found, found, nothing, at_most}
 use Rattle.dispatch.proofs.RequestFound.{request_found, one_request}
 use Rattle.dispatch.proofs.RecordFound.{record_known}
+use Rattle.dispatch.proofs.RecordRates.{price_in_range}
+use Rattle.dispatch.proofs.PriceFound.{price_found, price_same}
 use Rattle.dispatch.proofs.FilesKnown.{month_known, battery_known, schedule_known, hourly_in_range}
 use Rattle.dispatch.proofs.ScheduleBreaks.{break_or_feasible}
 
@@ -102,17 +106,38 @@ billed_one i label schedule long = by_break (break_or_feasible i schedule long)
 said_one : (answer : Answer) → HasOne (λ a. a ≡ answer)
 said_one answer = record { answer = answer; is = refl; only = λ other is. is }
 
+-- terms and a month have one answer
+priced_one : (terms : Terms) (month : Hourly) (Next : ℤ → Answer → Type 0) → ((price : ℤ) → IsOnePrice terms month.year month.number price → HasOne (Next price))
+    → HasOne (IsPriced terms month Next)
+priced_one terms month Next next = by_price (price_found terms month.year month.number)
+  where
+    refused_only : ((price : ℤ) → IsOnePrice terms month.year month.number price → ⊥) → (other : Answer) → IsPriced terms month Next other → other ≡ refused NotYet
+    refused_only none other (no_price also is) = is
+    refused_only none other (one_price price priced follows) = absurd (none price priced)
+
+    price_only : (price : ℤ) → IsOnePrice terms month.year month.number price → (one : HasOne (Next price)) → (other : Answer) → IsPriced terms month Next other → other ≡ one.answer
+    price_only price is one other (no_price none end) = absurd (none price is)
+    price_only price is one other (one_price also priced follows) =
+        let P : ℤ → Type 0 = λ p. Next p other in
+        one.only other (subst P (price_same terms month.year month.number also price priced is) follows)
+
+    by_price : Found (IsOnePrice terms month.year month.number) → HasOne (IsPriced terms month Next)
+    by_price (nothing none) = record { answer = refused NotYet; is = no_price none refl; only = refused_only none }
+    by_price (found price is) =
+        let one = next price is in
+        record { answer = one.answer; is = one_price price is one.is; only = price_only price is one }
+
 -- the answer to a request is one
 module _ (files : Files) (asked : Asked) where
-  task_one : (price : ℤ) (month : Hourly) (wanted : Wanted) → IsRecord (rows_in files asked.records) asked.label price → IsHourly (rows_in files asked.readings) month
+  task_one : (price : ℤ) (month : Hourly) (wanted : Wanted) → IsRate price → IsHourly (rows_in files asked.readings) month
       → HasOne (IsFor files asked.label price month wanted)
-  task_one price month (plan_with battery) record_is month_is =
+  task_one price month (plan_with battery) fair month_is =
       reads_one files battery (2 ^ 24) LongBattery (RefusesBattery (rows_in files battery)) (IsBatteryFile (rows_in files battery))
       (λ storage. IsPlanned (hourly_inputs price month storage) asked.label) (battery_known (rows_in files battery))
       (λ storage means. planned_one (hourly_inputs price month storage) asked.label
-      (hourly_in_range (rows_in files asked.records) asked.label (rows_in files asked.readings) (rows_in files battery) price month storage record_is month_is means))
-  task_one price month wants_metered_bill record_is month_is = said_one _
-  task_one price month (schedule_bill battery schedule) record_is month_is =
+      (hourly_in_range (rows_in files asked.readings) (rows_in files battery) price month storage fair month_is means))
+  task_one price month wants_metered_bill fair month_is = said_one _
+  task_one price month (schedule_bill battery schedule) fair month_is =
       reads_one files battery (2 ^ 24) LongBattery (RefusesBattery (rows_in files battery)) (IsBatteryFile (rows_in files battery))
       (λ storage. ReadsSchedule files schedule (hourly_inputs price month storage) (IsBilled (hourly_inputs price month storage) asked.label))
       (battery_known (rows_in files battery))
@@ -123,11 +148,13 @@ module _ (files : Files) (asked : Asked) where
 
   request_one : HasOne (IsAnswerTo files asked)
   request_one =
-      reads_one files asked.records (2 ^ 30) LongRecord (RefusesRecord (rows_in files asked.records) asked.label) (IsRecord (rows_in files asked.records) asked.label)
-      (IsWithPrice files asked) (record_known (rows_in files asked.records) asked.label)
-      (λ price record_is. reads_one files asked.readings (2 ^ 24) LongReadings (RefusesReadings (rows_in files asked.readings)) (IsHourly (rows_in files asked.readings))
-      (λ month. IsFor files asked.label price month asked.wanted) (month_known (rows_in files asked.readings))
-      (λ month month_is. task_one price month asked.wanted record_is month_is))
+      let records = rows_in files asked.records in
+      reads_one files asked.records (2 ^ 30) LongRecord (RefusesRecord records asked.label asked.rule) (IsRecord records asked.label asked.rule)
+      (IsWithTerms files asked) (record_known records asked.label asked.rule)
+      (λ terms record_is. reads_one files asked.readings (2 ^ 24) LongReadings (RefusesReadings (rows_in files asked.readings)) (IsHourly (rows_in files asked.readings))
+      (λ month. IsPriced terms month (λ price. IsFor files asked.label price month asked.wanted)) (month_known (rows_in files asked.readings))
+      (λ month month_is. priced_one terms month (λ price. IsFor files asked.label price month asked.wanted)
+      (λ price one. task_one price month asked.wanted (price_in_range records asked.label asked.rule terms month.year month.number price record_is one) month_is)))
 
 -- to words and files there is one answer
 pub one_answer : (words : List (List ℕ)) (files : Files) → HasAnswer words files

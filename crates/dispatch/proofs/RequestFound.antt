@@ -1,12 +1,18 @@
 -- Words are one request, or none.
-use Rattle.std.proofs.Common.{◌≡◌, ℕ, ◌≤◌, ◌==◌, List, [], length, slice_index, slice_index_or, bytes_eq, cond, codes, sym, ap, ◌∙◌, refl}
+use Rattle.std.proofs.Common.{◌≡◌, ℕ, ◌-◌, ◌≤◌, ltb, List, [], length, slice_index, slice_index_or, bytes_eq, cond, codes, sym, ap, ◌∙◌, refl}
+use Rattle.d_urdb.specs.declared.rule.RuleChoice.{RuleChoice}
+use Rattle.d_urdb.specs.declared.rule.RuleChoice.TheVariants.{AsRecorded, NetBilling}
 use Rattle.dispatch.specs.Words.{Asked, Wanted, plan_with, metered_bill, schedule_bill, IsRequest, HasValues, HasNames, IsValue, IsLabel, words_of}
 use Rattle.dispatch.proofs.Deciding.{Decided, holds, Found, both, opposite, restated, candidate, is_below, at_most, same_number, same_cells, each_item}
 
 -- what the command and the words behind the first seven want
 wanted_in : List (List ℕ) → Wanted
 wanted_in words = cond (bytes_eq (slice_index_or words 0 []) (codes "plan")) (plan_with (slice_index_or words 8 []))
-    (cond (length words == 7) metered_bill (schedule_bill (slice_index_or words 8 []) (slice_index_or words 10 [])))
+    (cond (ltb (length words) 10) metered_bill (schedule_bill (slice_index_or words 8 []) (slice_index_or words 10 [])))
+
+-- which rule the last words but one choose
+rule_in : List (List ℕ) → RuleChoice
+rule_in words = cond (bytes_eq (slice_index_or words (length words - 2) []) (codes "--rule")) NetBilling AsRecorded
 
 -- what the words at their places name
 asked_in : List (List ℕ) → Asked
@@ -15,20 +21,24 @@ asked_in words = record {
   label = slice_index_or words 4 [];
   readings = slice_index_or words 6 [];
   wanted = wanted_in words;
+  rule = rule_in words;
 }
 
 -- the words that name this name nothing else
 asked_of_words : (asked : Asked) → asked ≡ asked_in (words_of asked)
-unfolding asked_in wanted_in
-asked_of_words asked = by_wanted asked.records asked.label asked.readings asked.wanted
+unfolding asked_in wanted_in rule_in
+asked_of_words asked = by_wanted asked.records asked.label asked.readings asked.wanted asked.rule
   where
-    made : List ℕ → List ℕ → List ℕ → Wanted → Asked
-    made r l d w = record { records = r; label = l; readings = d; wanted = w }
+    made : List ℕ → List ℕ → List ℕ → Wanted → RuleChoice → Asked
+    made r l d w c = record { records = r; label = l; readings = d; wanted = w; rule = c }
 
-    by_wanted : (r l d : List ℕ) (w : Wanted) → made r l d w ≡ asked_in (words_of (made r l d w))
-    by_wanted r l d (plan_with battery) = refl
-    by_wanted r l d metered_bill = refl
-    by_wanted r l d (schedule_bill battery schedule) = refl
+    by_wanted : (r l d : List ℕ) (w : Wanted) (c : RuleChoice) → made r l d w c ≡ asked_in (words_of (made r l d w c))
+    by_wanted r l d (plan_with battery) AsRecorded = refl
+    by_wanted r l d (plan_with battery) NetBilling = refl
+    by_wanted r l d metered_bill AsRecorded = refl
+    by_wanted r l d metered_bill NetBilling = refl
+    by_wanted r l d (schedule_bill battery schedule) AsRecorded = refl
+    by_wanted r l d (schedule_bill battery schedule) NetBilling = refl
 
 -- words are one request at most
 pub one_request : {words : List (List ℕ)} {a b : Asked} → IsRequest words a → IsRequest words b → a ≡ b

@@ -1,8 +1,11 @@
 -- Words by their places.
-use Rattle.std.proofs.Common.{◌≡◌, ℕ, zero, suc, ◌-◌, ◌≤◌, List, [], ◌∷◌, length, drop, slice_index_or, codes, arith, refl, sym, ap, ◌∙◌}
-use Rattle.std.proofs.lemmas.List.{length-drop, get_or-drop}
-use Rattle.dispatch.specs.Words.{Asked, Wanted, plan_with, metered_bill, schedule_bill, words_of}
-use Rattle.dispatch.specs.Asking.{HasTask, HasOptions}
+use Rattle.std.proofs.Common.{◌≡◌, ℕ, zero, suc, ◌+◌, ◌-◌, ◌≤◌, List, [], ◌∷◌, ◌++◌, length, take, drop, slice_index_or, codes, arith, refl, sym, ap, subst, ◌∙◌, Option, Some, None, MatchOption, IfSome}
+use Rattle.std.proofs.Math.Seq.{take-append_seam}
+use Rattle.std.proofs.lemmas.List.{length-drop, get_or-drop, get_or-append-add, length-append, append-nil, take-append-drop}
+use Rattle.d_urdb.specs.declared.rule.RuleChoice.{RuleChoice}
+use Rattle.d_urdb.specs.declared.rule.RuleChoice.TheVariants.{AsRecorded, NetBilling}
+use Rattle.dispatch.specs.Words.{Asked, Wanted, plan_with, metered_bill, schedule_bill, front_of, rule_words, words_of}
+use Rattle.dispatch.specs.Asking.{HasTask, EndsInRule}
 
 -- a list is its items and what is behind them
 pub items : (n : ℕ) (words : List (List ℕ)) → suc n ≤ length words → drop n words ≡ slice_index_or words n [] ∷ drop (suc n) words
@@ -16,29 +19,6 @@ no_items zero [] long = refl
 no_items zero (w ∷ words) long = absurd (omega (arith, long))
 no_items (suc n) [] long = absurd (omega (arith, long))
 no_items (suc n) (w ∷ words) long = no_items n words (omega (arith, long))
-
--- seven or more words with the options at their places are those of what they name
-pub words_are : (words : List (List ℕ)) (asked : Asked) → HasTask words asked.wanted → HasOptions words → asked.records ≡ slice_index_or words 2 []
-    → asked.label ≡ slice_index_or words 4 [] → asked.readings ≡ slice_index_or words 6 [] → words ≡ words_of asked
-words_are words asked task options records label readings =
-    let zeroth = items 0 words (omega (arith, task.long)) in
-    let first = items 1 words (omega (arith, task.long)) in
-    let second = items 2 words (omega (arith, task.long)) in
-    let third = items 3 words (omega (arith, task.long)) in
-    let fourth = items 4 words (omega (arith, task.long)) in
-    let fifth = items 5 words (omega (arith, task.long)) in
-    let sixth = items 6 words (omega (arith, task.long)) in
-    cc (zeroth, first, second, third, fourth, fifth, sixth, task.command, task.options, options.records, options.label, options.readings, records, label, readings)
-
--- and the other way round
-pub task_of : (words : List (List ℕ)) (asked : Asked) → words ≡ words_of asked → HasTask words asked.wanted
-task_of words asked same = rw same (record { long = by_wanted asked.wanted; command = refl; options = refl })
-  where
-    by_wanted : (wanted : Wanted) → 7 ≤ length (words_of (record asked { wanted = wanted }))
-    by_wanted wanted = omega arith
-
-pub options_at : (words : List (List ℕ)) (asked : Asked) → words ≡ words_of asked → HasOptions words
-options_at words asked same = rw same (record { records = refl; label = refl; readings = refl })
 
 -- what is wanted behind the first seven words is known by how many there are
 pub plan_places : (words : List (List ℕ)) (battery : List ℕ) → HasTask words (plan_with battery)
@@ -85,3 +65,77 @@ pub task_places : (words : List (List ℕ)) (wanted : Wanted) → HasTask words 
 task_places words (plan_with battery) task metered plan schedule = let p = plan_places words battery task in plan p.0 p.1 p.2
 task_places words metered_bill task metered plan schedule = let p = metered_places words task in metered p.0 p.1
 task_places words (schedule_bill battery modes) task metered plan schedule = let p = schedule_places words battery modes task in schedule p.0 p.1 p.2 p.3
+
+-- the two words of a rule behind a front
+two_behind : (front : List (List ℕ)) → EndsInRule (front ++ rule_words NetBilling)
+two_behind front =
+    let long : length (front ++ rule_words NetBilling) ≡ length front + 2 = length-append front (rule_words NetBilling) in
+    let first : length (front ++ rule_words NetBilling) - 2 ≡ length front + 0 = omega (arith, long) in
+    let second : length (front ++ rule_words NetBilling) - 1 ≡ length front + 1 = omega (arith, long) in
+    record {
+      long = omega (arith, long);
+      option = ap (λ (n : ℕ). slice_index_or (front ++ rule_words NetBilling) n []) first ∙ get_or-append-add front (rule_words NetBilling) 0 [];
+      value = ap (λ (n : ℕ). slice_index_or (front ++ rule_words NetBilling) n []) second ∙ get_or-append-add front (rule_words NetBilling) 1 [];
+    }
+
+-- what is in front of them
+front_taken : (front : List (List ℕ)) → take (length (front ++ rule_words NetBilling) - 2) (front ++ rule_words NetBilling) ≡ front
+front_taken front =
+    let long : length (front ++ rule_words NetBilling) ≡ length front + 2 = length-append front (rule_words NetBilling) in
+    let first : length (front ++ rule_words NetBilling) - 2 ≡ length front = omega (arith, long) in
+    ap (λ (n : ℕ). take n (front ++ rule_words NetBilling)) first ∙ take-append_seam front (rule_words NetBilling)
+
+-- words that end in a rule are their front and it
+rule_behind : (words : List (List ℕ)) → EndsInRule words → words ≡ take (length words - 2) words ++ rule_words NetBilling
+rule_behind words ends = at_place (length words - 2) (omega (arith, ends.long)) ends.option
+    (ap (λ (n : ℕ). slice_index_or words n []) last ∙ ends.value)
+  where
+    last : length words - 2 + 1 ≡ length words - 1
+    last = omega (arith, ends.long)
+
+    at_place : (n : ℕ) → length words ≡ suc (suc n) → slice_index_or words n [] ≡ codes "--rule" → slice_index_or words (n + 1) [] ≡ codes "net-billing"
+        → words ≡ take n words ++ rule_words NetBilling
+    at_place n long option value =
+        let next : n + 1 ≡ suc n = omega arith in
+        let first = items n words (omega (arith, long)) in
+        let second = items (suc n) words (omega (arith, long)) in
+        let none = no_items (suc (suc n)) words long in
+        let behind : drop n words ≡ rule_words NetBilling = cc in
+        sym (take-append-drop n words) ∙ ap (λ (rest : List (List ℕ)). take n words ++ rest) behind
+
+-- words without those of a rule don't end in one
+front_alone : (asked : Asked) → EndsInRule (front_of asked) → ⊥
+front_alone asked ends = by_wanted asked.wanted ends
+  where
+    by_wanted : (wanted : Wanted) → EndsInRule (front_of (record asked { wanted = wanted })) → ⊥
+    by_wanted (plan_with battery) e = absurd (omega (arith, ap length e.option))
+    by_wanted metered_bill e = absurd (omega (arith, ap length e.option))
+    by_wanted (schedule_bill battery schedule) e = absurd (omega (arith, ap length e.option))
+
+-- what a front names is what the words name that end in a rule
+pub named_with_rule : {R : Type 0} (asked : R → Asked) (words : List (List ℕ)) (result : Option R) → EndsInRule words
+    → MatchOption result ((a : Asked) → take (length words - 2) words ≡ front_of a → ⊥) (λ r. take (length words - 2) words ≡ front_of (asked r))
+    → IfSome result (λ r. (asked r).rule ≡ NetBilling)
+    → MatchOption result ((a : Asked) → words ≡ words_of a → ⊥) (λ r. words ≡ words_of (asked r))
+named_with_rule asked words None ends none rule = λ a same. by_rule a a.rule same
+  where
+    by_rule : (a : Asked) (choice : RuleChoice) → words ≡ front_of a ++ rule_words choice → ⊥
+    by_rule a AsRecorded same =
+        front_alone a (subst EndsInRule (same ∙ append-nil (front_of a)) ends)
+    by_rule a NetBilling same =
+        none a (ap (λ (ws : List (List ℕ)). take (length ws - 2) ws) same ∙ front_taken (front_of a))
+named_with_rule asked words (Some r) ends front rule =
+    rule_behind words ends ∙ ap (λ (ws : List (List ℕ)). ws ++ rule_words NetBilling) front ∙ ap (λ (choice : RuleChoice). front_of (asked r) ++ rule_words choice) (sym rule)
+
+-- and the same of words that end in none
+pub named_without_rule : {R : Type 0} (asked : R → Asked) (words : List (List ℕ)) (result : Option R) → (EndsInRule words → ⊥)
+    → MatchOption result ((a : Asked) → words ≡ front_of a → ⊥) (λ r. words ≡ front_of (asked r))
+    → IfSome result (λ r. (asked r).rule ≡ AsRecorded)
+    → MatchOption result ((a : Asked) → words ≡ words_of a → ⊥) (λ r. words ≡ words_of (asked r))
+named_without_rule asked words None other none rule = λ a same. by_rule a a.rule same
+  where
+    by_rule : (a : Asked) (choice : RuleChoice) → words ≡ front_of a ++ rule_words choice → ⊥
+    by_rule a AsRecorded same = none a (same ∙ append-nil (front_of a))
+    by_rule a NetBilling same = other (subst EndsInRule (sym same) (two_behind (front_of a)))
+named_without_rule asked words (Some r) other front rule =
+    front ∙ sym (append-nil (front_of (asked r))) ∙ ap (λ (choice : RuleChoice). front_of (asked r) ++ rule_words choice) (sym rule)

@@ -1,9 +1,13 @@
 -- What the program answers to a list of words, given the files: a verdict, the text that it prints, and the files that it opens.
 -- The files are read one after the other, and the first that is too long or refused decides.
-use Rattle.std.specs.Prelude.{◌≡◌, ◌⊎◌, ℕ, ◌^◌, ◌<◌, ◌≤◌, ◌++◌, ℤ, pos, List, [], ◌∷◌, Option, None, Some, length, codes}
+use Rattle.std.specs.Prelude.{◌≡◌, ◌⊎◌, ℕ, ◌^◌, ◌<◌, ◌≤◌, ◌++◌, ℤ, pos, List, [], ◌∷◌, length, codes}
 use Rattle.d_desk.specs.Scene.{Files, Opening, opening, bytes_in}
 use Rattle.d_desk.specs.declared.opened.Direction.TheVariants.{In}
-use Rattle.d_table.specs.Table.{rows_of, row_at, cell_in, IsRectangular}
+use Rattle.std.specs.Fmt.{decimal}
+use Rattle.d_table.specs.Table.{rows_of, IsRectangular, IsFirstOdd}
+use Rattle.d_tariff.specs.Terms.{Terms}
+use Rattle.d_urdb.specs.declared.fault.Refused.{Refused}
+use Rattle.d_urdb.specs.declared.rule.RuleChoice.{RuleChoice}
 use Rattle.d_model.specs.declared.schedule.ScheduleFault.{ScheduleFault}
 use Rattle.d_model.specs.declared.schedule.ScheduleFault.TheVariants.{Shape}
 use Rattle.d_model.specs.Storage.{Storage}
@@ -12,14 +16,15 @@ use Rattle.d_model.specs.Schedules.{IsFeasible, IsFirstBreak}
 use Rattle.d_model.specs.Bills.{IsFirstLeast, bill_of, metered_bill}
 use Rattle.d_model.specs.ScheduleFile.{IsScheduleFile, IsScheduleFault}
 use Rattle.dispatch.specs.Words.{Asked, Wanted, IsRequest, plan_with, metered_bill as wants_metered_bill, schedule_bill}
-use Rattle.dispatch.specs.Record.{IsRecord, IsRecordFault}
+use Rattle.dispatch.specs.Record.{IsRecord, IsRecordFault, IsOnePrice, rows_with_label}
+use Rattle.dispatch.specs.RecordText.{record_text}
 use Rattle.dispatch.specs.ReadingsFile.{Hourly, IsHourly}
 use Rattle.dispatch.specs.BatteryFile.{IsBatteryFile}
-use Rattle.dispatch.specs.Text.{line, plan_text, bill_text, break_text, shown, behind_blank, schedule_fault_text}
+use Rattle.dispatch.specs.Text.{line, plan_text, bill_text, break_text, schedule_fault_text}
 use Rattle.dispatch.specs.declared.verdict.Verdict.{Verdict}
 use Rattle.dispatch.specs.declared.verdict.Verdict.TheVariants as verdict
 use Rattle.dispatch.specs.declared.fault.Refusal.{Refusal}
-use Rattle.dispatch.specs.declared.fault.Refusal.TheVariants.{Words, LongRecord, Record, LongReadings, Readings, LongBattery, Battery, LongSchedule, Schedule}
+use Rattle.dispatch.specs.declared.fault.Refusal.TheVariants.{Words, LongRecord, RecordShape, LongReadings, Readings, NotYet, LongBattery, Battery, LongSchedule, Schedule}
 
 -- a verdict, the text that is printed, and the files that are opened, in order
 pub record Answer : Type 0 where
@@ -39,9 +44,10 @@ after_opening name answer = record { verdict = answer.verdict; text = answer.tex
 abbrev pub refusal_verdict : Refusal → Verdict
 refusal_verdict Words = verdict.Words
 refusal_verdict LongRecord = verdict.Record
-refusal_verdict Record = verdict.Record
+refusal_verdict (RecordShape row) = verdict.Record
 refusal_verdict LongReadings = verdict.Readings
 refusal_verdict Readings = verdict.Readings
+refusal_verdict NotYet = verdict.Record
 refusal_verdict LongBattery = verdict.Battery
 refusal_verdict Battery = verdict.Battery
 refusal_verdict LongSchedule = verdict.Battery
@@ -51,9 +57,10 @@ refusal_verdict (Schedule fault) = verdict.Battery
 abbrev pub refusal_text : Refusal → List ℕ
 refusal_text Words = line (codes "refused words 23 NotYet")
 refusal_text LongRecord = line (codes "refused record 0 TooLong")
-refusal_text Record = line (codes "refused record 23 NotYet none 0")
+refusal_text (RecordShape row) = line (codes "refused record 0 Shape " ++ decimal row)
 refusal_text LongReadings = line (codes "refused readings 0 TooLong")
 refusal_text Readings = line (codes "refused readings 23 NotYet")
+refusal_text NotYet = line (codes "refused record 23 NotYet none 1")
 refusal_text LongBattery = line (codes "refused battery 0 TooLong")
 refusal_text Battery = line (codes "refused battery 23 NotYet")
 refusal_text LongSchedule = line (codes "refused schedule 0 TooLong")
@@ -62,11 +69,6 @@ refusal_text (Schedule fault) = line (codes "refused schedule " ++ schedule_faul
 -- the answer to what is refused
 abbrev pub refused : Refusal → Answer
 refused refusal = says (refusal_verdict refusal) (refusal_text refusal)
-
--- the text of a record's refusal, by the column that it names: its name and its cell as they are shown, or none
-abbrev pub record_text : List (List (List ℕ)) → Option ℕ → List ℕ
-record_text rows None = refusal_text Record
-record_text rows (Some column) = line (codes "refused record 23 NotYet " ++ shown (cell_in (row_at rows 0) column) ++ codes " 0" ++ behind_blank (cell_in (row_at rows 1) column))
 
 -- the part of a file in an answer: it is opened, and above its limit or refused by its rows it ends the answer; else its value goes on
 pub data Reads {V : Type 0} (files : Files) (name : List ℕ) (limit : ℕ) (too_long : Refusal) (Refuses : Answer → Type 0) (Means : V → Type 0)
@@ -82,9 +84,10 @@ pub data Reads {V : Type 0} (files : Files) (name : List ℕ) (limit : ℕ) (too
 abbrev pub rows_in : Files → List ℕ → List (List (List ℕ))
 rows_in files name = rows_of (bytes_in files name)
 
--- a record is refused with its column's text
-abbrev pub RefusesRecord : List (List (List ℕ)) → List ℕ → Answer → Type 0
-RefusesRecord rows label end = (column : Option ℕ) × IsRecordFault rows label column × (end ≡ says verdict.Record (record_text rows column))
+-- a record file is refused by its first row of another length, or its record is
+abbrev pub RefusesRecord : List (List (List ℕ)) → List ℕ → RuleChoice → Answer → Type 0
+RefusesRecord rows label rule end = ((row : ℕ) × IsFirstOdd rows row × (end ≡ refused (RecordShape row)))
+    ⊎ ((fault : Refused) × IsRecordFault rows label rule fault × (end ≡ says verdict.Record (record_text (rows_with_label label rows) fault)))
 
 -- readings are refused where they are no month
 abbrev pub RefusesReadings : List (List (List ℕ)) → Answer → Type 0
@@ -104,9 +107,9 @@ abbrev pub MeansSchedule : Inputs → List (List (List ℕ)) → List ℕ → Ty
 MeansSchedule i rows schedule = IsRectangular rows × IsScheduleFile i rows schedule
 
 -- the record file comes first; it has at most 2^30 bytes
-abbrev pub ReadsRecord : Files → List ℕ → List ℕ → (ℤ → Answer → Type 0) → Answer → Type 0
-ReadsRecord files name label Next answer =
-    Reads files name (2 ^ 30) LongRecord (RefusesRecord (rows_in files name) label) (IsRecord (rows_in files name) label) Next answer
+abbrev pub ReadsRecord : Files → List ℕ → List ℕ → RuleChoice → (Terms → Answer → Type 0) → Answer → Type 0
+ReadsRecord files name label rule Next answer =
+    Reads files name (2 ^ 30) LongRecord (RefusesRecord (rows_in files name) label rule) (IsRecord (rows_in files name) label rule) Next answer
 
 -- the readings file has at most 2^24 bytes
 abbrev pub ReadsReadings : Files → List ℕ → (Hourly → Answer → Type 0) → Answer → Type 0
@@ -155,13 +158,19 @@ IsFor files label price month (schedule_bill battery schedule) answer =
     ReadsBattery files battery (λ storage.
     ReadsSchedule files schedule (hourly_inputs price month storage) (IsBilled (hourly_inputs price month storage) label)) answer
 
--- the answer where the price is known
-abbrev pub IsWithPrice : Files → Asked → ℤ → Answer → Type 0
-IsWithPrice files asked price answer = ReadsReadings files asked.readings (λ month. IsFor files asked.label price month asked.wanted) answer
+-- the answer where terms and month are known: all energy of the month has one price, or the record is refused after all
+pub data IsPriced (terms : Terms) (month : Hourly) (Next : ℤ → Answer → Type 0) (answer : Answer) : Type 0 where
+  no_price : ((price : ℤ) → IsOnePrice terms month.year month.number price → ⊥) → answer ≡ refused NotYet → IsPriced terms month Next answer
+  one_price : (price : ℤ) → IsOnePrice terms month.year month.number price → Next price answer → IsPriced terms month Next answer
+
+-- the answer where the terms are known
+abbrev pub IsWithTerms : Files → Asked → Terms → Answer → Type 0
+IsWithTerms files asked terms answer =
+    ReadsReadings files asked.readings (λ month. IsPriced terms month (λ price. IsFor files asked.label price month asked.wanted)) answer
 
 -- the answer to a request
 abbrev pub IsAnswerTo : Files → Asked → Answer → Type 0
-IsAnswerTo files asked answer = ReadsRecord files asked.records asked.label (IsWithPrice files asked) answer
+IsAnswerTo files asked answer = ReadsRecord files asked.records asked.label asked.rule (IsWithTerms files asked) answer
 
 -- the answer to a list of words: they are no request, and nothing is opened; or they are, and the files decide
 pub data IsAnswer (words : List (List ℕ)) (files : Files) (answer : Answer) : Type 0 where

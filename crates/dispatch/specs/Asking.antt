@@ -1,5 +1,5 @@
 -- What a request names, as lists of bytes, and where its words stand.
-use Rattle.std.specs.Prelude.{◌≡◌, ℕ, ◌≤◌, List, [], length, drop, slice_index_or, codes}
+use Rattle.std.specs.Prelude.{◌≡◌, ℕ, ◌-◌, ◌≤◌, List, [], length, drop, slice_index_or, codes}
 use Rattle.dispatch.specs.Words.{Asked, Wanted, plan_with, metered_bill, schedule_bill, command_of, options_of}
 use Rattle.dispatch.specs.declared.words.Request.{Request}
 use Rattle.dispatch.specs.declared.words.Task.{Task}
@@ -13,7 +13,7 @@ wanted_of (ScheduleBill battery schedule) = schedule_bill battery.now schedule.n
 
 -- the bytes of what a request names
 abbrev pub asked_of : Request → Asked
-asked_of r = record { records = r.records.now; label = r.label.now; readings = r.readings.now; wanted = wanted_of r.task }
+asked_of r = record { records = r.records.now; label = r.label.now; readings = r.readings.now; wanted = wanted_of r.task; rule = r.rule }
 
 -- the options that each request has stand at their places
 pub record HasOptions (words : List (List ℕ)) : Type 0 where
@@ -26,3 +26,9 @@ pub record HasTask (words : List (List ℕ)) (wanted : Wanted) : Type 0 where
   pub long : 7 ≤ length words
   pub command : slice_index_or words 0 [] ≡ command_of wanted
   pub options : drop 7 words ≡ options_of wanted
+
+-- the last two words choose net billing
+pub record EndsInRule (words : List (List ℕ)) : Type 0 where
+  pub long : 2 ≤ length words
+  pub option : slice_index_or words (length words - 2) [] ≡ codes "--rule"
+  pub value : slice_index_or words (length words - 1) [] ≡ codes "net-billing"

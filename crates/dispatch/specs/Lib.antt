@@ -2,6 +2,7 @@ pub mod Words
 pub mod Asking
 pub mod Record
 pub mod Text
+pub mod RecordText
 pub mod ReadingsFile
 pub mod BatteryFile
 pub mod Answer

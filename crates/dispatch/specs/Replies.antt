@@ -11,6 +11,9 @@ use Rattle.d_model.specs.Inputs.{Inputs}
 use Rattle.d_model.specs.Shown.{storage_of}
 use Rattle.d_model.specs.declared.meter.Meter.{Meter}
 use Rattle.d_model.specs.declared.battery.Battery.{Battery}
+use Rattle.d_tariff.specs.Shown.{terms_of}
+use Rattle.d_tariff.specs.declared.tariff.Tariff.{Tariff}
+use Rattle.d_urdb.specs.declared.rule.RuleChoice.{RuleChoice}
 use Rattle.dispatch.specs.Record.{IsRecord}
 use Rattle.dispatch.specs.ReadingsFile.{Hourly, IsHourly}
 use Rattle.dispatch.specs.BatteryFile.{IsBatteryFile}
@@ -75,10 +78,10 @@ hourly_of meter = record { year = meter.month.year; number = meter.month.number;
 abbrev pub inputs_with : ℤ → Meter → Storage → Inputs
 inputs_with price meter storage = record { year = meter.month.year; number = meter.month.number; minutes = meter.minutes; net = meter.net; price = price; storage = storage }
 
--- the record file gives a price or a refusal
-abbrev pub RecordStage : Files → List ℕ → List ℕ → Scene → Scene → Result ℤ Fault → Type 0
-RecordStage files name label before now result =
-    IsStage name (HasValue files name (2 ^ 30) (IsRecord (rows_in files name) label)) (EndsAt files name (2 ^ 30) LongRecord (RefusesRecord (rows_in files name) label)) before now result
+-- the record file gives a tariff or a refusal
+abbrev pub RecordStage : Files → List ℕ → List ℕ → RuleChoice → Scene → Scene → Result Tariff Fault → Type 0
+RecordStage files name label rule before now result =
+    IsStage name (HasValue files name (2 ^ 30) (λ tariff. IsRecord (rows_in files name) label rule (terms_of tariff))) (EndsAt files name (2 ^ 30) LongRecord (RefusesRecord (rows_in files name) label rule)) before now result
 
 -- an hourly month of these rows
 abbrev pub IsMeterOf : List (List (List ℕ)) → Meter → Type 0

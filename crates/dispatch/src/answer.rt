@@ -5,8 +5,9 @@ ghost use Rattle.d_desk.specs.Cause.{Rose, HasCause};
 ghost use Rattle.d_desk.specs.Scene.{Files};
 ghost use Rattle.d_model.specs.Inputs.{IsInRange};
 ghost use Rattle.d_model.specs.Shown.{inputs_of, plain_of};
+ghost use Rattle.d_tariff.specs.Shown.{terms_of};
 ghost use Rattle.dispatch.specs.Asking.{asked_of, wanted_of};
-ghost use Rattle.dispatch.specs.Answer.{Answer, IsAnswer, IsAnswerTo, IsWithPrice, IsFor, IsPlanned, IsBilled, IsMeteredBill, ReadsBattery, ReadsSchedule, refused};
+ghost use Rattle.dispatch.specs.Answer.{Answer, IsAnswer, IsAnswerTo, IsWithTerms, IsPriced, IsFor, IsPlanned, IsBilled, IsMeteredBill, ReadsBattery, ReadsSchedule, refused};
 ghost use Rattle.dispatch.specs.Runs.{Runs, status_of};
 ghost use Rattle.dispatch.specs.Replies.{IsStage, Gives, EndsBy, AreWithin, IsTooLong, RecordStage, ReadingsStage, BatteryStage, ScheduleStage, Prepares, Replies, hourly_of, inputs_with};
 
@@ -14,6 +15,7 @@ use crate::battery::read_battery;
 use crate::bill::{metered_bill, schedule_bill};
 use crate::fault::{Fault, ReadFault, Refusal};
 use crate::plan::plan;
+use crate::price::one_price;
 use crate::readings::read_readings;
 use crate::record::read_record;
 use crate::reply::Reply;
@@ -23,6 +25,8 @@ use crate::words::{Request, Task, read_words};
 use d_desk::{Desk, DeskFault, LoadFault, load_file, print_all};
 use d_model::{Battery, Meter, Problem};
 use d_num::Rate;
+use d_tariff::Tariff;
+use d_urdb::RuleChoice;
 use std::alloc::Global;
 
 // The greatest sizes of the record file, and of the other files, in bytes.
@@ -98,23 +102,42 @@ fn answer_request<D: Desk>(
     ensures later { D.faults desk.old ≤ D.faults desk.new }
     ensures failed { IsErrOf result Fault.Failed → Rose (D.faults desk.old) (D.faults desk.new) }
 {
-    let price = load_record(alloc, desk, request.records, request.label)?;
-    answer_with_price(alloc, desk, request, price)
+    let tariff = load_record(alloc, desk, request.records, request.label, request.rule)?;
+    answer_with_tariff(alloc, desk, request, &tariff)
 }
 
-/// Prepares the answer where the price is known: the readings file comes next.
-fn answer_with_price<D: Desk>(
+/// Prepares the answer where the tariff is known: the readings file comes next.
+fn answer_with_tariff<D: Desk>(
     alloc: Global,
     desk: &mut D,
     request: &Request<'_>,
-    price: Rate,
+    tariff: &Tariff,
 ) -> Result<Reply, Fault>
-    ensures told { D.tells → Prepares (IsWithPrice (D.scene desk.old).files (asked_of request.now) price) (D.scene desk.old) (D.scene desk.new) result }
+    ensures told { D.tells → Prepares (IsWithTerms (D.scene desk.old).files (asked_of request.now) (terms_of tariff.now)) (D.scene desk.old) (D.scene desk.new) result }
     ensures later { D.faults desk.old ≤ D.faults desk.new }
     ensures failed { IsErrOf result Fault.Failed → Rose (D.faults desk.old) (D.faults desk.new) }
 {
     let meter = load_readings(alloc, desk, request.readings)?;
-    answer_task(alloc, desk, request, price, &meter)
+    answer_priced(alloc, desk, request, tariff, &meter)
+}
+
+/// Prepares the answer where tariff and readings are known: it is refused where the month has no one price of energy.
+fn answer_priced<D: Desk>(
+    alloc: Global,
+    desk: &mut D,
+    request: &Request<'_>,
+    tariff: &Tariff,
+    meter: &Meter,
+) -> Result<Reply, Fault>
+    requires { meter.now.minutes ≡ 60 }
+    ensures told { D.tells → Prepares (IsPriced (terms_of tariff.now) (hourly_of meter.now) (λ price. IsFor (D.scene desk.old).files request.now.label.now price (hourly_of meter.now) (wanted_of request.now.task))) (D.scene desk.old) (D.scene desk.new) result }
+    ensures later { D.faults desk.old ≤ D.faults desk.new }
+    ensures failed { IsErrOf result Fault.Failed → Rose (D.faults desk.old) (D.faults desk.new) }
+{
+    match one_price(tariff, meter.month) {
+        Some(price) => answer_task(alloc, desk, request, price, meter),
+        None => Err(Refusal::NotYet.fault(alloc)),
+    }
 }
 
 /// Prepares the answer where price and readings are known.
@@ -210,14 +233,20 @@ fn bill_of_problem<D: Desk>(
     Ok(schedule_bill(alloc, label, problem, modes.as_slice())?)
 }
 
-/// The price of the record of this label in the file.
-fn load_record<D: Desk>(alloc: Global, desk: &mut D, name: &str, label: &str) -> Result<Rate, Fault>
-    ensures told { D.tells → RecordStage (D.scene desk.old).files name.now label.now (D.scene desk.old) (D.scene desk.new) result }
+/// The tariff of the record of this label in the file.
+fn load_record<D: Desk>(
+    alloc: Global,
+    desk: &mut D,
+    name: &str,
+    label: &str,
+    rule: RuleChoice,
+) -> Result<Tariff, Fault>
+    ensures told { D.tells → RecordStage (D.scene desk.old).files name.now label.now rule (D.scene desk.old) (D.scene desk.new) result }
     ensures later { D.faults desk.old ≤ D.faults desk.new }
     ensures failed { IsErrOf result Fault.Failed → Rose (D.faults desk.old) (D.faults desk.new) }
 {
     let bytes = load(alloc, desk, name, LONGEST_RECORD, Refusal::LongRecord)?;
-    read_record(alloc, bytes.as_slice(), label)
+    read_record(alloc, bytes.as_slice(), label, rule)
 }
 
 /// The month of readings in the file.

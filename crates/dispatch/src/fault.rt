@@ -25,14 +25,15 @@ pub enum ReadFault {
     Memory,
 }
 
-/// What is refused, in the order in which it is looked at. A record that is refused by one of its columns is beside these.
+/// What is refused, in the order in which it is looked at. A record's own refusals are beside these.
 #[derive(Clone, Copy, Debug, PartialEq, Eq)]
 pub enum Refusal {
     Words,
     LongRecord,
-    Record,
+    RecordShape(u64),
     LongReadings,
     Readings,
+    NotYet,
     LongBattery,
     Battery,
     LongSchedule,
@@ -48,9 +49,13 @@ impl Refusal {
         match self {
             Refusal::Words => put_line(&mut text, "refused words 23 NotYet", "")?,
             Refusal::LongRecord => put_line(&mut text, "refused record 0 TooLong", "")?,
-            Refusal::Record => put_line(&mut text, "refused record 23 NotYet none 0", "")?,
+            Refusal::RecordShape(row) => {
+                let row = format!(in alloc; "{row}")?;
+                put_line(&mut text, "refused record 0 Shape ", row.as_str())?;
+            }
             Refusal::LongReadings => put_line(&mut text, "refused readings 0 TooLong", "")?,
             Refusal::Readings => put_line(&mut text, "refused readings 23 NotYet", "")?,
+            Refusal::NotYet => put_line(&mut text, "refused record 23 NotYet none 1", "")?,
             Refusal::LongBattery => put_line(&mut text, "refused battery 0 TooLong", "")?,
             Refusal::Battery => put_line(&mut text, "refused battery 23 NotYet", "")?,
             Refusal::LongSchedule => put_line(&mut text, "refused schedule 0 TooLong", "")?,
@@ -68,7 +73,7 @@ impl Refusal {
     {
         match self {
             Refusal::Words => Verdict::Words,
-            Refusal::LongRecord | Refusal::Record => Verdict::Record,
+            Refusal::LongRecord | Refusal::RecordShape(_) | Refusal::NotYet => Verdict::Record,
             Refusal::LongReadings | Refusal::Readings => Verdict::Readings,
             Refusal::LongBattery
             | Refusal::Battery

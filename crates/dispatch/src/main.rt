@@ -12,11 +12,13 @@ mod least;
 mod lines;
 mod number;
 mod plan;
+mod price;
 #[cfg(test)]
 mod reader_tests;
 mod readings;
 mod real;
 mod record;
+mod record_line;
 mod reply;
 mod schedule;
 #[cfg(test)]

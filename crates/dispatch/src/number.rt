@@ -3,17 +3,11 @@
 ghost use Rattle.std.specs.Prelude.{◌≡◌, ℕ, ◌^◌, ◌≤◌, ℤ, length, IfNone, IfSome};
 ghost use Rattle.std.specs.Str.Parse.{IsNumeral, digits_value};
 ghost use Rattle.dispatch.specs.BatteryFile.{IsWhole};
-ghost use Rattle.dispatch.specs.Record.{IsPrice};
 ghost use Rattle.dispatch.specs.ReadingsFile.{IsReading};
 
-use d_num::{Rate, Wh};
+use d_num::Wh;
 use d_text::read_decimal;
 use std::str;
-
-// The decimals of a price of energy in USD per kWh, and its greatest size.
-const PRICE_PLACES: u8 = 18;
-
-const GREATEST_PRICE: u64 = 1000;
 
 // The greatest size of a net reading in Wh, and of a number in a battery file.
 const GREATEST_READING: u64 = 1_000_000_000;
@@ -38,18 +32,6 @@ pub fn read_reading(cell: &[u8]) -> Option<Wh>
 {
     match read_decimal(cell, 0, GREATEST_READING) {
         Ok(net) => Wh::new(net as i64),
-        Err(_) => None,
-    }
-}
-
-/// The price in USD per kWh, of at most 1000 in size, that the cell writes as a decimal of at most 18 places. None exactly where it
-/// writes none.
-pub fn read_price(cell: &[u8]) -> Option<Rate>
-    ensures none { IfNone result ((price : ℤ) → IsPrice cell.now price → ⊥) }
-    ensures some { IfSome result (IsPrice cell.now) }
-{
-    match read_decimal(cell, PRICE_PLACES, GREATEST_PRICE) {
-        Ok(units) => Rate::new(units),
         Err(_) => None,
     }
 }

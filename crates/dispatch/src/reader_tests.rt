@@ -1,17 +1,27 @@
 //! The readers on many files: good ones, each refusal, and each end of each range.
 
 use crate::battery::read_battery;
+use crate::price::one_price;
 use crate::readings::read_readings;
 use crate::record::read_record;
+use d_model::Month;
+use d_urdb::RuleChoice;
 use std::alloc::Global;
 use std::test::Fail;
 
 const RATE: &str = "label,energyratestructure/period0/tier0rate\n";
 
+/// The one price of February 2025 by the record L of the file.
+fn price_in(alloc: Global, text: &str) -> Option<i128> {
+    let month = Month::new(2025, 2)?;
+    let tariff = read_record(alloc, text.as_bytes(), "L", RuleChoice::AsRecorded).ok()?;
+    Some(one_price(&tariff, month)?.units())
+}
+
 #[test]
 fn reads_records(rt: HostRuntime) -> Result<(), Fail> {
     let alloc = rt.alloc();
-    let cases: [(&str, &str, Option<i128>); 31] = [
+    let cases: [(&str, &str, Option<i128>); 33] = [
         ("", "L,0.10\n", Some(100_000_000_000_000_000)),
         ("", "L,0.10", Some(100_000_000_000_000_000)),
         ("", "L,0.10\r\n", Some(100_000_000_000_000_000)),
@@ -49,15 +59,16 @@ fn reads_records(rt: HostRuntime) -> Result<(), Fail> {
         ("", "M,0.10\n", None),
         ("", "l,0.10\n", None),
         ("", "L,0.10\nL,0.10\n", None),
+        ("", "M,x\nL,0.10\nN,\n", Some(100_000_000_000_000_000)),
+        ("", "M\nL,0.10\n", None),
         ("", "L\n", None),
         ("", "L,0.10,\n", None),
     ];
     for (mark, row, wanted) in cases {
         let text = format!(in alloc; "{mark}{RATE}{row}")?;
-        let found = read_record(alloc, text.as_str().as_bytes(), "L").ok();
-        assert_eq!(rt; found.map(|rate| rate.units()), wanted, "of {row:?}");
+        assert_eq!(rt; price_in(alloc, text.as_str()), wanted, "of {row:?}");
     }
-    let files: [(&str, bool); 9] = [
+    let files: [(&str, bool); 10] = [
         ("", false),
         ("\n\n", false),
         ("L,0.10\n", false),
@@ -71,24 +82,51 @@ fn reads_records(rt: HostRuntime) -> Result<(), Fail> {
             true,
         ),
         (
-            "label,energyratestructure/period0/tier0rate,other\nL,0.10,\n",
+            "label,energyratestructure/period0/tier0rate,other\nL,0.10,0\n",
             true,
         ),
         (
-            "label,energyratestructure/period0/tier0rate,other\nL,0.10,0\n",
-            false,
+            "label,energyratestructure/period0/tier0rate,label\nL,0.10,M\n",
+            true,
         ),
         (
-            "label,energyratestructure/period0/tier0rate,label\nL,0.10,L\n",
+            "label,energyratestructure/period0/tier0rate,mincharge\nL,0.10,\n",
+            true,
+        ),
+        (
+            "label,energyratestructure/period0/tier0rate,mincharge\nL,0.10,0\n",
             false,
         ),
     ];
     for (text, wanted) in files {
-        assert_eq!(rt;
-            read_record(alloc, text.as_bytes(), "L").is_ok(),
-            wanted,
-            "of {text:?}"
-        );
+        assert_eq!(rt; price_in(alloc, text).is_some(), wanted, "of {text:?}");
+    }
+    Ok(())
+}
+
+#[test]
+fn a_month_has_one_price_or_none(rt: HostRuntime) -> Result<(), Fail> {
+    let alloc = rt.alloc();
+    let cases: [(&str, &str, Option<i128>); 7] = [
+        ("adj", "0.02", Some(120_000_000_000_000_000)),
+        ("adj", "-0.10", Some(0)),
+        ("sell", "0", Some(100_000_000_000_000_000)),
+        ("sell", "0.05", None),
+        ("max", "1e+38", Some(100_000_000_000_000_000)),
+        ("unit", "kWh daily", Some(100_000_000_000_000_000)),
+        ("unit", "", Some(100_000_000_000_000_000)),
+    ];
+    for (part, cell, wanted) in cases {
+        let text = format!(in alloc;
+            "label,energyratestructure/period0/tier0rate,energyratestructure/period0/tier0{part}\nL,0.10,{cell}\n"
+        )?;
+        assert_eq!(rt; price_in(alloc, text.as_str()), wanted, "of {part} {cell}");
+    }
+    for (second, wanted) in [("0.10", Some(100_000_000_000_000_000)), ("0.20", None)] {
+        let text = format!(in alloc;
+            "label,energyratestructure/period0/tier0rate,energyratestructure/period0/tier0max,energyratestructure/period0/tier1rate\nL,0.10,500,{second}\n"
+        )?;
+        assert_eq!(rt; price_in(alloc, text.as_str()), wanted, "of {second}");
     }
     Ok(())
 }

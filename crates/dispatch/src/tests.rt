@@ -221,28 +221,70 @@ fn bills_a_schedule_or_says_what_is_wrong(rt: HostRuntime) -> Result<(), Fail> {
 }
 
 #[test]
-fn a_record_is_refused_by_its_column(rt: HostRuntime) -> Result<(), Fail> {
+fn a_record_is_refused_in_one_line(rt: HostRuntime) -> Result<(), Fail> {
     let alloc = rt.alloc();
     let words = words(alloc, BILL.as_slice())?;
     let cases = [
+        ("\nM\nL,0.10\n", "0 Shape 0"),
+        ("\nM,0.10\n", "1 NoLabel none 0"),
+        ("\nL,0.10\nL,0.10\n", "2 LabelTwice none 0"),
         (
-            "label,energyratestructure/period0/tier0rate,n\u{e9}w\nL,0.10,\u{e9}\n",
-            "refused record 23 NotYet n??w 0 ??\n",
+            "\nL,0.1000000000000000001\n",
+            "4 Decimal energyratestructure/period0/tier0rate 3 0.1000000000000000001",
+        ),
+        ("\nL,\n", "6 EnergyMissing none 0"),
+        (
+            ",dgRules\nL,0.10,Net Metering\n",
+            "13 NetMetering dgRules 0 Net Metering",
         ),
         (
-            "label,energyratestructure/period0/tier0rate\nL,\n",
-            "refused record 23 NotYet energyratestructure/period0/tier0rate 0\n",
+            ",demandratestructure/\u{e9}\nL,0.10,\u{e9}\n",
+            "23 NotYet demandratestructure/?? 0 ??",
         ),
         (
-            "label,energyratestructure/period0/tier0rate\nM,0.10\n",
-            "refused record 23 NotYet none 0\n",
+            ",energyratestructure/period0/tier0sell\nL,0.10,0.05\n",
+            "23 NotYet none 1",
         ),
     ];
-    for (text, printed) in cases {
+    for (rest, why) in cases {
         let mut desk = desk(alloc, BATTERY)?;
-        desk.put_file("tariff", text.as_bytes())?;
+        let text = format!(in alloc; "label,energyratestructure/period0/tier0rate{rest}")?;
+        desk.put_file("tariff", text.as_str().as_bytes())?;
         assert_eq!(rt; run(alloc, words.as_slice(), &mut desk), Status::Record);
-        assert_eq!(rt; desk.printed_bytes(), printed.as_bytes());
+        let printed = format!(in alloc; "refused record {why}\n")?;
+        assert_eq!(rt; desk.printed_bytes(), printed.as_str().as_bytes());
+    }
+    Ok(())
+}
+
+#[test]
+fn net_billing_is_chosen_by_the_last_words(rt: HostRuntime) -> Result<(), Fail> {
+    let alloc = rt.alloc();
+    let cases = [
+        (
+            ["--battery", "battery", "--rule", "net-billing"],
+            Status::Done,
+        ),
+        (
+            ["--battery", "battery", "--rule", "net-metering"],
+            Status::Words,
+        ),
+        (
+            ["--rule", "net-billing", "--battery", "battery"],
+            Status::Words,
+        ),
+    ];
+    for (end, status) in cases {
+        let mut desk = desk(alloc, BATTERY)?;
+        desk.put_file(
+            "tariff",
+            b"label,energyratestructure/period0/tier0rate,dgrules\nL,0.10,Net Metering\n",
+        )?;
+        let mut list = words(alloc, &PLAN[..7])?;
+        for word in end {
+            list.push(String::from_str(alloc, word)?)?;
+        }
+        assert_eq!(rt; run(alloc, list.as_slice(), &mut desk), status);
     }
     Ok(())
 }

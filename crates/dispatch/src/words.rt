@@ -1,8 +1,10 @@
 //! The words of a request.
 
-ghost use Rattle.std.specs.Prelude.{◌≡◌, ◌≢◌, ◌↔◌, ℕ, ◌<◌, ◌≤◌, List, length, map, drop, slice_index, slice_index_or, [], All, IsTrue, MatchOption, codes, string_bytes};
-ghost use Rattle.dispatch.specs.Words.{Asked, Wanted, words_of, command_of, options_of, HasNames, HasValues, IsRequest, IsValue, IsLabel};
-ghost use Rattle.dispatch.specs.Asking.{asked_of, wanted_of, HasOptions, HasTask};
+ghost use Rattle.std.specs.Prelude.{◌≡◌, ◌≢◌, ◌↔◌, ℕ, ◌<◌, ◌≤◌, List, length, map, drop, slice_index, slice_index_or, [], All, IsTrue, IfSome, MatchOption, codes, string_bytes};
+ghost use Rattle.dispatch.specs.Words.{Asked, Wanted, front_of, words_of, command_of, options_of, HasNames, HasValues, IsRequest, IsValue, IsLabel};
+ghost use Rattle.dispatch.specs.Asking.{asked_of, wanted_of, HasOptions, HasTask, EndsInRule};
+
+use d_urdb::RuleChoice;
 
 /// What the words of a request name.
 #[derive(Clone, Copy, Debug)]
@@ -15,6 +17,8 @@ pub struct Request<'a> {
     pub readings: &'a str,
     /// What is wanted.
     pub task: Task<'a>,
+    /// The rule of billing.
+    pub rule: RuleChoice,
 }
 
 /// What is wanted for a record and a month of readings.
@@ -29,8 +33,9 @@ pub enum Task<'a> {
 }
 
 /// The request of the words `plan --records A --label L --readings R --battery B`, or of `bill --records A --label L --readings R` with
-/// both or neither of `--battery B --schedule S` behind them. None exactly where the words are others: in another order, with a value
-/// that is empty or begins with a minus, or a label that isn't 1 to 64 bytes of printable ASCII without spaces.
+/// both or neither of `--battery B --schedule S` behind them, each with or without `--rule net-billing` at its end. None exactly where
+/// the words are others: in another order, with a value that is empty or begins with a minus, or a label that isn't 1 to 64 bytes of
+/// printable ASCII without spaces.
 pub fn read_words(words: &[String]) -> Option<Request<'_>>
     ensures { MatchOption result ((asked : Asked) → IsRequest (map string_bytes words.now) asked → ⊥) (λ request. IsRequest (map string_bytes words.now) (asked_of request)) }
 {
@@ -46,6 +51,18 @@ pub fn read_words(words: &[String]) -> Option<Request<'_>>
 fn read_options(words: &[String]) -> Option<Request<'_>>
     ensures { MatchOption result ((asked : Asked) → map string_bytes words.now ≡ words_of asked → ⊥) (λ request. map string_bytes words.now ≡ words_of (asked_of request)) }
 {
+    if ends_in_rule(words) {
+        read_front(&words[..words.len() - 2], RuleChoice::NetBilling)
+    } else {
+        read_front(words, RuleChoice::AsRecorded)
+    }
+}
+
+/// The request by this rule that the words without those of the rule name.
+fn read_front(words: &[String], rule: RuleChoice) -> Option<Request<'_>>
+    ensures front { MatchOption result ((asked : Asked) → map string_bytes words.now ≡ front_of asked → ⊥) (λ request. map string_bytes words.now ≡ front_of (asked_of request)) }
+    ensures rule { IfSome result (λ request. request.rule ≡ rule) }
+{
     let task = read_task(words)?;
     if are_options(words) {
         Some(Request {
@@ -53,10 +70,19 @@ fn read_options(words: &[String]) -> Option<Request<'_>>
             label: word_at(words, 4),
             readings: word_at(words, 6),
             task,
+            rule,
         })
     } else {
         None
     }
+}
+
+/// Whether the last two words choose net billing.
+fn ends_in_rule(words: &[String]) -> bool
+    ensures { IsTrue result ↔ EndsInRule (map string_bytes words.now) }
+{
+    let count = words.len();
+    count >= 2 && is_at(words, count - 2, "--rule") && is_at(words, count - 1, "net-billing")
 }
 
 /// What the command and the words behind the first seven want.
