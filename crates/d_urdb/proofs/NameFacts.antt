@@ -3,7 +3,7 @@ use Rattle.std.proofs.Common.{◌≡◌, ◌∙◌, ◌↔◌, ◌<◌, ◌≤�
 use Rattle.std.proofs.lemmas.Bool.Decides.{nat_tests}
 use Rattle.std.specs.List.{prefix_len}
 use Rattle.d_urdb.specs.declared.names.Structure.{Structure}
-use Rattle.d_urdb.specs.declared.names.Structure.TheVariants.{Energy, Demand, FlatDemand}
+use Rattle.d_urdb.specs.declared.names.Structure.TheVariants.{Energy, Demand, FlatDemand, Coincident}
 use Rattle.d_urdb.specs.declared.names.Part.{Part}
 use Rattle.d_urdb.specs.declared.names.Part.TheVariants.{Max, Unit, Rate, Adj, Sell}
 use Rattle.d_urdb.specs.Names.{structure_text, part_text, is_digit, IsTierNumber, IsTierName}
@@ -26,6 +26,13 @@ structure_once Demand FlatDemand xs ys same = absurd (first_apart 100 102 (struc
 structure_once FlatDemand Energy xs ys same = absurd (first_apart 101 102 (structure_text Energy ++ ys) (structure_text FlatDemand ++ xs) (omega arith) refl refl (sym same))
 structure_once FlatDemand Demand xs ys same = absurd (first_apart 100 102 (structure_text Demand ++ ys) (structure_text FlatDemand ++ xs) (omega arith) refl refl (sym same))
 structure_once FlatDemand FlatDemand xs ys same = refl
+structure_once Coincident Energy xs ys same = absurd (first_apart 99 101 (structure_text Coincident ++ xs) (structure_text Energy ++ ys) (omega arith) refl refl same)
+structure_once Coincident Demand xs ys same = absurd (first_apart 99 100 (structure_text Coincident ++ xs) (structure_text Demand ++ ys) (omega arith) refl refl same)
+structure_once Coincident FlatDemand xs ys same = absurd (first_apart 99 102 (structure_text Coincident ++ xs) (structure_text FlatDemand ++ ys) (omega arith) refl refl same)
+structure_once Energy Coincident xs ys same = absurd (first_apart 99 101 (structure_text Coincident ++ ys) (structure_text Energy ++ xs) (omega arith) refl refl (sym same))
+structure_once Demand Coincident xs ys same = absurd (first_apart 99 100 (structure_text Coincident ++ ys) (structure_text Demand ++ xs) (omega arith) refl refl (sym same))
+structure_once FlatDemand Coincident xs ys same = absurd (first_apart 99 102 (structure_text Coincident ++ ys) (structure_text FlatDemand ++ xs) (omega arith) refl refl (sym same))
+structure_once Coincident Coincident xs ys same = refl
 
 -- the structure that a text begins with
 pub structure_found : (text : List ℕ) (found : Structure) (behind : List ℕ) → ((r : List ℕ) → (Some behind ≡ Some r) ↔ (text ≡ structure_text found ++ r))

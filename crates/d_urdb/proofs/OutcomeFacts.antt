@@ -1,6 +1,6 @@
 -- The outcome of a record by that of its row.
 use Rattle.std.proofs.Common.{◌≡◌, ◌∙◌, ℕ, List, Some, Ok, Err, sym, ap}
-use Rattle.d_cal.specs.declared.schedule.Schedule.{Schedule}
+use Rattle.d_urdb.specs.declared.terms.Accepted.{Accepted}
 use Rattle.d_tariff.specs.Terms.{Terms}
 use Rattle.d_urdb.specs.declared.fault.Refused.{Refused}
 use Rattle.d_urdb.specs.declared.fault.RecordFault.{RecordFault}
@@ -30,7 +30,7 @@ label_refused rows label rule found refused outcome same =
 
 -- the row is refused
 pub row_refused : (rows : List (List (List ℕ))) (label : List ℕ) (row : ℕ) (rule : RuleChoice) (found : RecordFault) (refused : Refused) → IsRowOf rows label row
-    → ChecksOrNot {A = Schedule} (λ readings. row_refusals readings (data_row rows row) rule) (Err found) → found ≡ fault.Refused refused
+    → ChecksOrNot {A = Accepted} (λ readings. row_refusals readings (data_row rows row) rule) (Err found) → found ≡ fault.Refused refused
     → IsOutcome rows label rule (Err refused)
 unfolding row_outcome
 row_refused rows label row rule (fault.Refused found) refused is refuses same =

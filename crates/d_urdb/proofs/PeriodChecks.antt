@@ -5,11 +5,11 @@ use Rattle.d_urdb.specs.declared.fault.RecordFault.{RecordFault}
 use Rattle.d_urdb.specs.declared.fault.RecordFault.TheVariants as fault
 use Rattle.d_urdb.specs.declared.names.Structure.{Structure}
 use Rattle.d_urdb.specs.declared.tier_rule.TierRule.{TierRule}
-use Rattle.d_urdb.specs.declared.tier_rule.TierRule.TheVariants.{Numbers, Units, Order, Sells}
+use Rattle.d_urdb.specs.declared.tier_rule.TierRule.TheVariants.{Numbers, Units, Order, Sells, Falls}
 use Rattle.d_urdb.specs.Numbers.{Readings, AreReadings}
 use Rattle.d_urdb.specs.Tiers.{Row, IsLeastHole, first_filled, has_tier}
 use Rattle.d_urdb.specs.Refusals.{first_of, each, refusal, when}
-use Rattle.d_urdb.specs.Periods.{period_refusals, hole_refusal, is_last, is_above, begin_of, end_of, breaks_order}
+use Rattle.d_urdb.specs.Periods.{period_refusals, hole_refusal, is_last, is_above, begin_of, end_of, breaks_order, has_negative_price}
 use Rattle.d_urdb.specs.Values.{HasRisingEnds}
 use Rattle.d_urdb.specs.Checks.{Passes, Refuses, ChecksOrNot, IsHoleCheck, tier_refusals}
 use Rattle.d_urdb.proofs.ReadingOnce.{hole_once}
@@ -24,12 +24,16 @@ by_rule row structure period rule readings = each 16 (tier_refusals rule reading
 abbrev pub by_hole : Row → Structure → ℕ → Readings → List (Option Refused)
 by_hole row structure period readings = hole_refusal readings row structure period ∷ []
 
+-- the refusals by the last two of the rules
+abbrev lasts : Row → Structure → ℕ → Readings → List (Option Refused)
+lasts row structure period readings = by_rule row structure period Sells readings ++ by_rule row structure period Falls readings
+
 -- a period has no other refusals
 all_rules : Row → Structure → ℕ → Readings → List (Option Refused)
 all_rules row structure period readings =
     by_hole row structure period readings
     ++ (by_rule row structure period Numbers readings
-    ++ (by_rule row structure period Units readings ++ (by_rule row structure period Order readings ++ by_rule row structure period Sells readings)))
+    ++ (by_rule row structure period Units readings ++ (by_rule row structure period Order readings ++ lasts row structure period readings)))
 
 are_all : (row : Row) (structure : Structure) (period : ℕ) (readings : Readings) → all_rules row structure period readings ≡ period_refusals readings row structure period
 unfolding all_rules period_refusals each
@@ -60,7 +64,7 @@ unfolding all_rules
 period_holes row structure period (fault.Refused refused) (tier, least, is) =
     known row structure period refused
     (first_refuses (by_hole row structure period) (λ readings. by_rule row structure period Numbers readings
-    ++ (by_rule row structure period Units readings ++ (by_rule row structure period Order readings ++ by_rule row structure period Sells readings))) refused
+    ++ (by_rule row structure period Units readings ++ (by_rule row structure period Order readings ++ lasts row structure period readings))) refused
     (hole_refuses row structure period tier refused least is))
 period_holes row structure period fault.Memory is = tt
 
@@ -68,7 +72,7 @@ pub period_numbers : (row : Row) (structure : Structure) (period : ℕ) (refused
     → Refuses (by_rule row structure period Numbers) refused → Refuses (λ readings. period_refusals readings row structure period) refused
 unfolding all_rules
 period_numbers row structure period refused none here =
-    let last : Readings → List (Option Refused) = λ readings. by_rule row structure period Units readings ++ (by_rule row structure period Order readings ++ by_rule row structure period Sells readings) in
+    let last : Readings → List (Option Refused) = λ readings. by_rule row structure period Units readings ++ (by_rule row structure period Order readings ++ lasts row structure period readings) in
     known row structure period refused
     (then_refuses (by_hole row structure period) (λ readings. by_rule row structure period Numbers readings ++ last readings) refused (holes_pass row structure period none)
     (first_refuses (by_rule row structure period Numbers) last refused here))
@@ -78,7 +82,7 @@ pub period_units : (row : Row) (structure : Structure) (period : ℕ) (refused :
     → Refuses (λ readings. period_refusals readings row structure period) refused
 unfolding all_rules
 period_units row structure period refused none numbers here =
-    let last : Readings → List (Option Refused) = λ readings. by_rule row structure period Order readings ++ by_rule row structure period Sells readings in
+    let last : Readings → List (Option Refused) = λ readings. by_rule row structure period Order readings ++ lasts row structure period readings in
     known row structure period refused
     (then_refuses (by_hole row structure period) (λ readings. by_rule row structure period Numbers readings ++ (by_rule row structure period Units readings ++ last readings)) refused
     (holes_pass row structure period none)
@@ -90,38 +94,54 @@ pub period_order : (row : Row) (structure : Structure) (period : ℕ) (refused :
     → Refuses (λ readings. period_refusals readings row structure period) refused
 unfolding all_rules
 period_order row structure period refused none numbers units here =
-    let sells : Readings → List (Option Refused) = by_rule row structure period Sells in
+    let last : Readings → List (Option Refused) = lasts row structure period in
     known row structure period refused
-    (then_refuses (by_hole row structure period) (λ readings. by_rule row structure period Numbers readings ++ (by_rule row structure period Units readings ++ (by_rule row structure period Order readings ++ sells readings))) refused
+    (then_refuses (by_hole row structure period) (λ readings. by_rule row structure period Numbers readings ++ (by_rule row structure period Units readings ++ (by_rule row structure period Order readings ++ last readings))) refused
     (holes_pass row structure period none)
-    (then_refuses (by_rule row structure period Numbers) (λ readings. by_rule row structure period Units readings ++ (by_rule row structure period Order readings ++ sells readings)) refused numbers
-    (then_refuses (by_rule row structure period Units) (λ readings. by_rule row structure period Order readings ++ sells readings) refused units
-    (first_refuses (by_rule row structure period Order) sells refused here))))
+    (then_refuses (by_rule row structure period Numbers) (λ readings. by_rule row structure period Units readings ++ (by_rule row structure period Order readings ++ last readings)) refused numbers
+    (then_refuses (by_rule row structure period Units) (λ readings. by_rule row structure period Order readings ++ last readings) refused units
+    (first_refuses (by_rule row structure period Order) last refused here))))
+
+period_lasts : (row : Row) (structure : Structure) (period : ℕ) (refused : Refused) → IsLeastHole row structure period None
+    → Passes (by_rule row structure period Numbers) → Passes (by_rule row structure period Units) → Passes (by_rule row structure period Order)
+    → Refuses (lasts row structure period) refused → Refuses (λ readings. period_refusals readings row structure period) refused
+unfolding all_rules
+period_lasts row structure period refused none numbers units order here =
+    let last : Readings → List (Option Refused) = lasts row structure period in
+    known row structure period refused
+    (then_refuses (by_hole row structure period) (λ readings. by_rule row structure period Numbers readings ++ (by_rule row structure period Units readings ++ (by_rule row structure period Order readings ++ last readings))) refused
+    (holes_pass row structure period none)
+    (then_refuses (by_rule row structure period Numbers) (λ readings. by_rule row structure period Units readings ++ (by_rule row structure period Order readings ++ last readings)) refused numbers
+    (then_refuses (by_rule row structure period Units) (λ readings. by_rule row structure period Order readings ++ last readings) refused units
+    (then_refuses (by_rule row structure period Order) last refused order here))))
 
 pub period_sells : (row : Row) (structure : Structure) (period : ℕ) (refused : Refused) → IsLeastHole row structure period None
     → Passes (by_rule row structure period Numbers) → Passes (by_rule row structure period Units) → Passes (by_rule row structure period Order)
     → Refuses (by_rule row structure period Sells) refused → Refuses (λ readings. period_refusals readings row structure period) refused
-unfolding all_rules
 period_sells row structure period refused none numbers units order here =
-    let sells : Readings → List (Option Refused) = by_rule row structure period Sells in
-    known row structure period refused
-    (then_refuses (by_hole row structure period) (λ readings. by_rule row structure period Numbers readings ++ (by_rule row structure period Units readings ++ (by_rule row structure period Order readings ++ sells readings))) refused
-    (holes_pass row structure period none)
-    (then_refuses (by_rule row structure period Numbers) (λ readings. by_rule row structure period Units readings ++ (by_rule row structure period Order readings ++ sells readings)) refused numbers
-    (then_refuses (by_rule row structure period Units) (λ readings. by_rule row structure period Order readings ++ sells readings) refused units
-    (then_refuses (by_rule row structure period Order) sells refused order here))))
+    period_lasts row structure period refused none numbers units order (first_refuses (by_rule row structure period Sells) (by_rule row structure period Falls) refused here)
+
+pub period_falls : (row : Row) (structure : Structure) (period : ℕ) (refused : Refused) → IsLeastHole row structure period None
+    → Passes (by_rule row structure period Numbers) → Passes (by_rule row structure period Units) → Passes (by_rule row structure period Order)
+    → Passes (by_rule row structure period Sells) → Refuses (by_rule row structure period Falls) refused
+    → Refuses (λ readings. period_refusals readings row structure period) refused
+period_falls row structure period refused none numbers units order sells here =
+    period_lasts row structure period refused none numbers units order
+    (then_refuses (by_rule row structure period Sells) (by_rule row structure period Falls) refused sells here)
 
 pub period_passes : (row : Row) (structure : Structure) (period : ℕ) → IsLeastHole row structure period None
     → Passes (by_rule row structure period Numbers) → Passes (by_rule row structure period Units) → Passes (by_rule row structure period Order)
-    → Passes (by_rule row structure period Sells) → Passes (λ readings. period_refusals readings row structure period)
+    → Passes (by_rule row structure period Sells) → Passes (by_rule row structure period Falls)
+    → Passes (λ readings. period_refusals readings row structure period)
 unfolding all_rules
-period_passes row structure period none numbers units order sells readings are =
+period_passes row structure period none numbers units order sells falls readings are =
     let all : Passes (all_rules row structure period) =
-    both_pass (by_hole row structure period) (λ readings. by_rule row structure period Numbers readings ++ (by_rule row structure period Units readings ++ (by_rule row structure period Order readings ++ by_rule row structure period Sells readings)))
+    both_pass (by_hole row structure period) (λ readings. by_rule row structure period Numbers readings ++ (by_rule row structure period Units readings ++ (by_rule row structure period Order readings ++ lasts row structure period readings)))
     (holes_pass row structure period none)
-    (both_pass (by_rule row structure period Numbers) (λ readings. by_rule row structure period Units readings ++ (by_rule row structure period Order readings ++ by_rule row structure period Sells readings)) numbers
-    (both_pass (by_rule row structure period Units) (λ readings. by_rule row structure period Order readings ++ by_rule row structure period Sells readings) units
-    (both_pass (by_rule row structure period Order) (by_rule row structure period Sells) order sells))) in
+    (both_pass (by_rule row structure period Numbers) (λ readings. by_rule row structure period Units readings ++ (by_rule row structure period Order readings ++ lasts row structure period readings)) numbers
+    (both_pass (by_rule row structure period Units) (λ readings. by_rule row structure period Order readings ++ lasts row structure period readings) units
+    (both_pass (by_rule row structure period Order) (lasts row structure period) order
+    (both_pass (by_rule row structure period Sells) (by_rule row structure period Falls) sells falls)))) in
     ap first_of (sym (are_all row structure period readings)) ∙ all readings are
 
 -- a period of which nothing is refused has rising ends
@@ -156,17 +176,17 @@ period_rises row structure period passes = record { no_hole = no_hole; rising = 
     no_hole =
         let readings = one_reading.readings in
         let parts = front_none (by_hole row structure period readings) (by_rule row structure period Numbers readings
-        ++ (by_rule row structure period Units readings ++ (by_rule row structure period Order readings ++ by_rule row structure period Sells readings))) (all readings one_reading.are) in
+        ++ (by_rule row structure period Units readings ++ (by_rule row structure period Order readings ++ lasts row structure period readings))) (all readings one_reading.are) in
         hole_none row structure period (readings.hole row structure period) (one_reading.are.hole_is row structure period) parts.0
 
     order : (readings : Readings) → AreReadings readings → first_of (by_rule row structure period Order readings) ≡ None
     order readings are =
         let holes = front_none (by_hole row structure period readings) (by_rule row structure period Numbers readings
-        ++ (by_rule row structure period Units readings ++ (by_rule row structure period Order readings ++ by_rule row structure period Sells readings))) (all readings are) in
+        ++ (by_rule row structure period Units readings ++ (by_rule row structure period Order readings ++ lasts row structure period readings))) (all readings are) in
         let numbers = front_none (by_rule row structure period Numbers readings)
-        (by_rule row structure period Units readings ++ (by_rule row structure period Order readings ++ by_rule row structure period Sells readings)) holes.1 in
-        let units = front_none (by_rule row structure period Units readings) (by_rule row structure period Order readings ++ by_rule row structure period Sells readings) numbers.1 in
-        (front_none (by_rule row structure period Order readings) (by_rule row structure period Sells readings) units.1).0
+        (by_rule row structure period Units readings ++ (by_rule row structure period Order readings ++ lasts row structure period readings)) holes.1 in
+        let units = front_none (by_rule row structure period Units readings) (by_rule row structure period Order readings ++ lasts row structure period readings) numbers.1 in
+        (front_none (by_rule row structure period Order readings) (lasts row structure period readings) units.1).0
 
     rising : (readings : Readings) → AreReadings readings → (tier : ℕ) → tier < 16 → has_tier row structure period (suc tier) ≡ true
         → is_above (begin_of readings row structure period tier) (end_of readings row structure period tier) ≡ true
@@ -174,3 +194,18 @@ period_rises row structure period passes = record { no_hole = no_hole; rising = 
         let none = each_none 16 tier (tier_refusals Order readings row structure period) below (order readings are) in
         order_told (is_last row structure period tier) (is_above (begin_of readings row structure period tier) (end_of readings row structure period tier))
         (last_told row structure period tier there) (when_none (breaks_order readings row structure period tier) _ none)
+
+-- and no price of demand below 0
+pub period_not_falling : (row : Row) (structure : Structure) (period : ℕ) → Passes (λ readings. period_refusals readings row structure period)
+    → (readings : Readings) → AreReadings readings → (tier : ℕ) → tier < 16 → has_negative_price readings row structure period tier ≡ false
+unfolding all_rules
+period_not_falling row structure period passes readings are tier below =
+    let all : first_of (all_rules row structure period readings) ≡ None = ap first_of (are_all row structure period readings) ∙ passes readings are in
+    let holes = front_none (by_hole row structure period readings) (by_rule row structure period Numbers readings
+    ++ (by_rule row structure period Units readings ++ (by_rule row structure period Order readings ++ lasts row structure period readings))) all in
+    let numbers = front_none (by_rule row structure period Numbers readings)
+    (by_rule row structure period Units readings ++ (by_rule row structure period Order readings ++ lasts row structure period readings)) holes.1 in
+    let units = front_none (by_rule row structure period Units readings) (by_rule row structure period Order readings ++ lasts row structure period readings) numbers.1 in
+    let order = front_none (by_rule row structure period Order readings) (lasts row structure period readings) units.1 in
+    let falls = (front_none (by_rule row structure period Sells readings) (by_rule row structure period Falls readings) order.1).1 in
+    when_none (has_negative_price readings row structure period tier) _ (each_none 16 tier (tier_refusals Falls readings row structure period) below falls)

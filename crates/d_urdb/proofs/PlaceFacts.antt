@@ -1,20 +1,21 @@
 -- Different parts, tiers and periods have different places.
 use Rattle.std.proofs.Common.{◌≡◌, ◌∙◌, ◌<◌, ◌≤◌, ◌+◌, ◌*◌, ◌==◌, ℕ, if◌then◌else◌, arith, refl, sym, ap}
 use Rattle.d_urdb.specs.declared.names.Structure.{Structure}
-use Rattle.d_urdb.specs.declared.names.Structure.TheVariants.{Energy, Demand, FlatDemand}
+use Rattle.d_urdb.specs.declared.names.Structure.TheVariants.{Energy, Demand, FlatDemand, Coincident}
 use Rattle.d_urdb.specs.declared.names.Part.{Part}
 use Rattle.d_urdb.specs.declared.names.Part.TheVariants.{Max, Unit, Rate, Adj, Sell}
 use Rattle.d_urdb.specs.Names.{structure_number, part_number}
 use Rattle.d_urdb.specs.Index.{period_place, part_place}
 
 structure_of : ℕ → Structure
-structure_of n = if n == 0 then Energy else (if n == 1 then Demand else FlatDemand)
+structure_of n = if n == 0 then Energy else (if n == 1 then Demand else (if n == 2 then FlatDemand else Coincident))
 
 structure_back : (structure : Structure) → structure_of (structure_number structure) ≡ structure
 unfolding structure_of
 structure_back Energy = refl
 structure_back Demand = refl
 structure_back FlatDemand = refl
+structure_back Coincident = refl
 
 part_of : ℕ → Part
 part_of n = if n == 0 then Max else (if n == 1 then Unit else (if n == 2 then Rate else (if n == 3 then Adj else Sell)))

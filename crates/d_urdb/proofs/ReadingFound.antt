@@ -2,12 +2,13 @@
 use Rattle.std.proofs.Common.{◌≡◌, ◌≢◌, ◌⊎◌, inl, inr, ℕ, ◌^◌, ℤ, pos, Bool, true, false, Option, None, Some, Result, Ok, Err, List, [], ◌∷◌, refl}
 use Rattle.std.proofs.Math.Path.{fun_ext}
 use Rattle.d_text.specs.Fault.{IsDecimalOf, IsDecimalFault, IsFloorOf, IsFloorFault}
-use Rattle.d_text.specs.Grid.{IsGridOf, IsGridFault}
+use Rattle.d_text.specs.declared.items.Span.{Span}
+use Rattle.d_text.specs.Grid.{IsGridOf, IsGridFault, IsListOf, IsListFault}
 use Rattle.d_text.specs.declared.decimal.DecimalFault.{DecimalFault}
 use Rattle.d_text.specs.declared.decimal.DecimalFault.TheVariants.{Empty, Form, TooLarge, TooFine}
-use Rattle.d_text.proofs.OutcomeLaws.{decimal_outcome, floor_outcome, grid_outcome}
-use Rattle.d_urdb.specs.Numbers.{IsNumber, IsBeyond, IsEnd, zero_hours, IsHours, Readings, AreReadings, HasOneReading}
-use Rattle.d_urdb.proofs.ReadingOnce.{number_once, end_once, hours_once, hole_once}
+use Rattle.d_text.proofs.OutcomeLaws.{decimal_outcome, floor_outcome, grid_outcome, list_outcome}
+use Rattle.d_urdb.specs.Numbers.{IsNumber, IsBeyond, IsEnd, zero_hours, IsHours, IsList, Readings, AreReadings, HasOneReading}
+use Rattle.d_urdb.proofs.ReadingOnce.{number_once, end_once, hours_once, spans_once, hole_once}
 use Rattle.d_urdb.proofs.HoleFound.{hole_found}
 
 -- a cell with a byte isn't blank
@@ -50,12 +51,20 @@ hours_found (byte ∷ rest) = by_outcome (grid_outcome (byte ∷ rest))
     by_outcome (inl rows) = (Ok rows.0, inr rows.1)
     by_outcome (inr place) = (Err place.0, (filled byte rest, place.1))
 
+pub spans_found : (cell : List ℕ) → (r : Result (List Span) ℕ) × IsList cell r
+spans_found cell = by_outcome (list_outcome cell)
+  where
+    by_outcome : ((spans : List Span) × IsListOf cell spans) ⊎ ((place : ℕ) × IsListFault cell place) → (r : Result (List Span) ℕ) × IsList cell r
+    by_outcome (inl spans) = (Ok spans.0, spans.1)
+    by_outcome (inr place) = (Err place.0, place.1)
+
 -- the readings that are found
 found : Readings
 found = record {
   number = λ limit cell. (number_found limit cell).0;
   end = λ cell. (end_found cell).0;
   hours = λ cell. (hours_found cell).0;
+  spans = λ cell. (spans_found cell).0;
   hole = λ row structure period. (hole_found row structure period).0;
 }
 
@@ -65,18 +74,20 @@ are_found = record {
   number_is = λ limit cell. (number_found limit cell).1;
   end_is = λ cell. (end_found cell).1;
   hours_is = λ cell. (hours_found cell).1;
+  spans_is = λ cell. (spans_found cell).1;
   hole_is = λ row structure period. (hole_found row structure period).1;
 }
 
 -- readings are the same where all their functions are
-same_readings : (a b : Readings) → a.number ≡ b.number → a.end ≡ b.end → a.hours ≡ b.hours → a.hole ≡ b.hole → a ≡ b
-same_readings a b number end hours hole = λ i. record { number = number i; end = end i; hours = hours i; hole = hole i }
+same_readings : (a b : Readings) → a.number ≡ b.number → a.end ≡ b.end → a.hours ≡ b.hours → a.spans ≡ b.spans → a.hole ≡ b.hole → a ≡ b
+same_readings a b number end hours spans hole = λ i. record { number = number i; end = end i; hours = hours i; spans = spans i; hole = hole i }
 
 readings_once : (a b : Readings) → AreReadings a → AreReadings b → a ≡ b
 readings_once a b are are_too = same_readings a b
     (fun_ext (λ limit. fun_ext (λ cell. number_once limit cell (a.number limit cell) (b.number limit cell) (are.number_is limit cell) (are_too.number_is limit cell))))
     (fun_ext (λ cell. end_once cell (a.end cell) (b.end cell) (are.end_is cell) (are_too.end_is cell)))
     (fun_ext (λ cell. hours_once cell (a.hours cell) (b.hours cell) (are.hours_is cell) (are_too.hours_is cell)))
+    (fun_ext (λ cell. spans_once cell (a.spans cell) (b.spans cell) (are.spans_is cell) (are_too.spans_is cell)))
     (fun_ext (λ row. fun_ext (λ structure. fun_ext (λ period. hole_once row structure period (a.hole row structure period) (b.hole row structure period)
     (are.hole_is row structure period) (are_too.hole_is row structure period)))))
 

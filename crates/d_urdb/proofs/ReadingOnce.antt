@@ -3,16 +3,17 @@ use Rattle.std.proofs.Common.{◌≡◌, ◌⊎◌, inl, inr, ℕ, ◌^◌, ◌�
 use Rattle.std.proofs.lemmas.Bool.{cases_lt}
 use Rattle.d_text.specs.Decimal.{Written, IsDecimalText, IsFormFault, IsInLimit}
 use Rattle.d_text.specs.Fault.{IsDecimalFault}
-use Rattle.d_text.specs.Grid.{IsGridOf, IsGridFault}
+use Rattle.d_text.specs.declared.items.Span.{Span}
+use Rattle.d_text.specs.Grid.{IsGridOf, IsGridText, IsListText, IsRefusedAt}
 use Rattle.d_text.specs.declared.decimal.DecimalFault.{DecimalFault}
 use Rattle.d_text.specs.declared.decimal.DecimalFault.TheVariants.{Empty, Form, TooLarge, TooFine}
 use Rattle.d_text.proofs.OneReading.{one-reading}
 use Rattle.d_text.proofs.DecimalLaws.{decimal_same, floor_same}
 use Rattle.d_text.proofs.FaultLaws.{empty_other, decimal_refused}
-use Rattle.d_text.proofs.GridLaws.{grid_same}
+use Rattle.d_text.proofs.GridLaws.{grid_same, list_same}
 use Rattle.d_urdb.specs.declared.names.Structure.{Structure}
 use Rattle.d_urdb.specs.Tiers.{Row, is_hole, IsLeastHole}
-use Rattle.d_urdb.specs.Numbers.{IsNumber, IsBeyond, IsEnd, IsHours}
+use Rattle.d_urdb.specs.Numbers.{IsNumber, IsBeyond, IsEnd, IsHours, IsList}
 
 -- the place at which a cell is no decimal
 form_once : (cell : List ℕ) (a b : ℕ) → IsFormFault cell a → IsFormFault cell b → a ≡ b
@@ -133,8 +134,8 @@ rows_or_place : (cell : List ℕ) (rows : List (List ℕ)) (place : ℕ) → IsH
 rows_or_place cell rows place (inl blank) refused = refused.0 blank.0
 rows_or_place cell rows place (inr is) refused = refused.1.other rows is
 
-place_once : (cell : List ℕ) (a b : ℕ) → IsGridFault cell a → IsGridFault cell b → a ≡ b
-place_once cell a b ha hb =
+place_once : {A : Type 0} (form : ℕ → List ℕ → A → Type 0) (cell : List ℕ) (a b : ℕ) → IsRefusedAt form cell a → IsRefusedAt form cell b → a ≡ b
+place_once form cell a b ha hb =
     let up : b ≤ a = ha.longest b hb.within hb.begins in
     let down : a ≤ b = hb.longest a ha.within ha.begins in
     omega arith
@@ -143,7 +144,13 @@ pub hours_once : (cell : List ℕ) (a b : Result (List (List ℕ)) ℕ) → IsHo
 hours_once cell (Ok rows) (Ok others) ha hb = ap Ok (rows_once cell rows others ha hb)
 hours_once cell (Ok rows) (Err place) ha hb = absurd (rows_or_place cell rows place ha hb)
 hours_once cell (Err place) (Ok rows) ha hb = absurd (rows_or_place cell rows place hb ha)
-hours_once cell (Err p) (Err q) ha hb = ap Err (place_once cell p q ha.1 hb.1)
+hours_once cell (Err p) (Err q) ha hb = ap Err (place_once IsGridText cell p q ha.1 hb.1)
+
+pub spans_once : (cell : List ℕ) (a b : Result (List Span) ℕ) → IsList cell a → IsList cell b → a ≡ b
+spans_once cell (Ok spans) (Ok others) ha hb = ap Ok (list_same cell spans others ha hb)
+spans_once cell (Ok spans) (Err place) ha hb = absurd (hb.other spans ha)
+spans_once cell (Err place) (Ok spans) ha hb = absurd (ha.other spans hb)
+spans_once cell (Err p) (Err q) ha hb = ap Err (place_once IsListText cell p q ha hb)
 
 -- the least tier at which a test holds is one
 least_once : (test : ℕ → Bool) (a b : ℕ) → test a ≡ true → test b ≡ true → ((tier : ℕ) → tier < a → test tier ≡ false) → ((tier : ℕ) → tier < b → test tier ≡ false) → a ≡ b

@@ -1,5 +1,5 @@
 -- The terms of a row that isn't refused.
-use Rattle.std.proofs.Common.{◌≡◌, ℕ, pos, ◌-◌, ◌<◌, ◌≤◌, Bool, true, List, [], length, All, Option, None, IsSome, Result, Ok, Err, refl, sym, arith, get_or, inl, inr, subst, replicate}
+use Rattle.std.proofs.Common.{◌≡◌, ℕ, ◌-◌, ◌<◌, ◌≤◌, Bool, true, List, [], length, All, Option, None, IsSome, Result, Ok, Err, refl, sym, arith, get_or, inl, inr, subst, replicate}
 use Rattle.std.specs.Bool.{◌==◌}
 use Rattle.std.specs.List.{list_any}
 use Rattle.std.proofs.lemmas.Bool.{eq-eqb}
@@ -11,16 +11,20 @@ use Rattle.d_cal.specs.Schedules.{HasPeriods, entry_at}
 use Rattle.d_tier.specs.declared.tier.Tier.{Tier}
 use Rattle.d_tariff.specs.declared.period.Period.{Period}
 use Rattle.d_tariff.specs.declared.charge.Charge.{Charge}
-use Rattle.d_tariff.specs.declared.charge.ChargeUnit.TheVariants.{Month}
 use Rattle.d_tariff.specs.Terms.{Terms, HasEach, period_at}
-use Rattle.d_urdb.specs.declared.names.Structure.TheVariants.{Energy}
+use Rattle.d_urdb.specs.declared.names.Structure.TheVariants.{Energy, Demand, FlatDemand}
 use Rattle.d_urdb.specs.declared.rule.RuleChoice.{RuleChoice}
 use Rattle.d_urdb.specs.Numbers.{Readings, AreReadings, IsHours, zero_hours}
 use Rattle.d_urdb.specs.Tiers.{Row, named_cell, has_tier}
 use Rattle.d_urdb.specs.Periods.{energy_period, energy_periods}
 use Rattle.d_urdb.specs.Hours.{hours_or_0, hours_in, occurs_in, weekday_name, weekend_name}
 use Rattle.d_urdb.specs.Energy.{HasPeriodTiers}
-use Rattle.d_urdb.specs.Record.{row_terms, no_demand, is_hourly}
+use Rattle.d_urdb.specs.Charges.{fixed_of, minimum_of}
+use Rattle.d_urdb.specs.Demand.{demand_periods, demand_weekday_name, demand_weekend_name}
+use Rattle.d_urdb.specs.FlatMonths.{flat_months}
+use Rattle.d_urdb.specs.Ratchets.{ratchets}
+use Rattle.d_urdb.specs.Ignored.{ignored_columns}
+use Rattle.d_urdb.specs.Record.{row_terms, is_hourly}
 
 -- twelve months of 24 hours
 record IsFull (hours : List (List ℕ)) : Type 0 where
@@ -78,10 +82,10 @@ pub entries : (readings : Readings) (row : Row) (periods : List (Option Period))
 unfolding energy_periods
 entries readings row periods is = rw is (length-map-range_with_len (energy_period readings row) 0 36)
 
--- terms of which the flat demand periods, the fractions and the minimum are left open
+-- terms by their parts
 abbrev pub terms_with : List (Option Period) → List (Option (List Tier)) → List (Option (List Tier)) → List (List ℕ) → List (List ℕ) → List (List ℕ) → List (List ℕ)
-    → Charge → Bool → List ℕ → Terms
-terms_with energy demand flat weekday weekend demand_weekday demand_weekend fixed hourly ignored = record {
+    → List ℕ → List ℕ → Charge → Option Charge → Bool → List ℕ → Terms
+terms_with energy demand flat weekday weekend demand_weekday demand_weekend months ratchet fixed minimum hourly ignored = record {
   energy = energy;
   demand = demand;
   flat = flat;
@@ -89,22 +93,25 @@ terms_with energy demand flat weekday weekend demand_weekday demand_weekend fixe
   energy_weekend = weekend;
   demand_weekday = demand_weekday;
   demand_weekend = demand_weekend;
-  flat_months = replicate 12 0;
-  ratchet = replicate 12 0;
+  flat_months = months;
+  ratchet = ratchet;
   fixed = fixed;
-  minimum = None;
+  minimum = minimum;
   hourly = hourly;
   ignored = ignored;
 }
 
 -- terms whose parts are those of the row
 pub row_terms_are : (readings : Readings) (row : Row) (rule : RuleChoice) (energy : List (Option Period)) (demand flat : List (Option (List Tier)))
-    (weekday weekend demand_weekday demand_weekend : List (List ℕ)) (fixed : Charge) (hourly : Bool) (ignored : List ℕ)
-    → energy ≡ energy_periods readings row → demand ≡ no_demand → flat ≡ no_demand → weekday ≡ hours_in readings row weekday_name
-    → weekend ≡ hours_in readings row weekend_name → demand_weekday ≡ zero_hours → demand_weekend ≡ zero_hours
-    → fixed ≡ record { amount = pos 0; unit = Month } → hourly ≡ is_hourly row rule → ignored ≡ []
-    → terms_with energy demand flat weekday weekend demand_weekday demand_weekend fixed hourly ignored ≡ row_terms readings row rule
+    (weekday weekend demand_weekday demand_weekend : List (List ℕ)) (months ratchet : List ℕ) (fixed : Charge) (minimum : Option Charge) (hourly : Bool) (ignored : List ℕ)
+    → energy ≡ energy_periods readings row → demand ≡ demand_periods readings row Demand → flat ≡ demand_periods readings row FlatDemand
+    → weekday ≡ hours_in readings row weekday_name → weekend ≡ hours_in readings row weekend_name
+    → demand_weekday ≡ hours_in readings row demand_weekday_name → demand_weekend ≡ hours_in readings row demand_weekend_name
+    → months ≡ flat_months readings row → ratchet ≡ ratchets readings row → fixed ≡ fixed_of readings row → minimum ≡ minimum_of readings row
+    → hourly ≡ is_hourly row rule → ignored ≡ ignored_columns row
+    → terms_with energy demand flat weekday weekend demand_weekday demand_weekend months ratchet fixed minimum hourly ignored ≡ row_terms readings row rule
 unfolding row_terms
-row_terms_are readings row rule energy demand flat weekday weekend demand_weekday demand_weekend fixed hourly ignored
-    energy_is demand_is flat_is weekday_is weekend_is demand_weekday_is demand_weekend_is fixed_is hourly_is ignored_is =
-    λ i. terms_with (energy_is i) (demand_is i) (flat_is i) (weekday_is i) (weekend_is i) (demand_weekday_is i) (demand_weekend_is i) (fixed_is i) (hourly_is i) (ignored_is i)
+row_terms_are readings row rule energy demand flat weekday weekend demand_weekday demand_weekend months ratchet fixed minimum hourly ignored
+    energy_is demand_is flat_is weekday_is weekend_is demand_weekday_is demand_weekend_is months_are ratchet_is fixed_is minimum_is hourly_is ignored_are =
+    λ i. terms_with (energy_is i) (demand_is i) (flat_is i) (weekday_is i) (weekend_is i) (demand_weekday_is i) (demand_weekend_is i) (months_are i) (ratchet_is i)
+    (fixed_is i) (minimum_is i) (hourly_is i) (ignored_are i)

@@ -5,11 +5,11 @@ use Rattle.d_urdb.specs.declared.fault.RecordFault.{RecordFault}
 use Rattle.d_urdb.specs.declared.fault.RecordFault.TheVariants as fault
 use Rattle.d_urdb.specs.declared.names.Structure.{Structure}
 use Rattle.d_urdb.specs.declared.tier_rule.TierRule.{TierRule}
-use Rattle.d_urdb.specs.declared.tier_rule.TierRule.TheVariants.{Numbers, Units, Order, Sells}
+use Rattle.d_urdb.specs.declared.tier_rule.TierRule.TheVariants.{Numbers, Units, Order, Sells, Falls}
 use Rattle.d_urdb.specs.Numbers.{Readings, AreReadings}
 use Rattle.d_urdb.specs.Refusals.{first_of, refusal}
 use Rattle.d_urdb.specs.Tiers.{Row, is_hole, IsLeastHole, first_filled}
-use Rattle.d_urdb.specs.Periods.{number_refusals, unit_refusal, order_refusal, sell_refusal}
+use Rattle.d_urdb.specs.Periods.{number_refusals, unit_refusal, order_refusal, sell_refusal, fall_refusal}
 
 -- none of these refusals comes
 abbrev pub Passes : (Readings → List (Option Refused)) → Type 0
@@ -48,3 +48,4 @@ tier_refusals Numbers readings row structure period tier = number_refusals readi
 tier_refusals Units readings row structure period tier = unit_refusal row structure period tier ∷ []
 tier_refusals Order readings row structure period tier = order_refusal readings row structure period tier ∷ []
 tier_refusals Sells readings row structure period tier = sell_refusal readings row structure period tier ∷ []
+tier_refusals Falls readings row structure period tier = fall_refusal readings row structure period tier ∷ []

@@ -1,15 +1,16 @@
 -- What a record's energy periods and their hours keep where nothing of them is refused.
 use Rattle.std.specs.Prelude.{◌≡◌, ℕ, ◌≤◌, true, List}
 use Rattle.d_cal.specs.declared.schedule.Schedule.{Schedule}
+use Rattle.d_urdb.specs.declared.names.Structure.{Structure}
 use Rattle.d_urdb.specs.declared.names.Structure.TheVariants.{Energy}
 use Rattle.d_urdb.specs.Numbers.{Readings, AreReadings}
 use Rattle.d_urdb.specs.Tiers.{Row, has_tier}
 use Rattle.d_urdb.specs.Hours.{weekday_name, weekend_name, hours_in, occurs_in}
 use Rattle.d_urdb.specs.Values.{HasRisingEnds}
 
--- the ends of the tiers of each energy period rise
-abbrev pub HasRisingPeriods : Row → Type 0
-HasRisingPeriods row = (period : ℕ) → period ≤ 35 → HasRisingEnds row Energy period
+-- the ends of the tiers of each period of a structure rise
+abbrev pub HasRisingPeriods : Row → Structure → Type 0
+HasRisingPeriods row structure = (period : ℕ) → period ≤ 35 → HasRisingEnds row structure period
 
 -- each period of these hours has a tier
 abbrev pub HasPeriodTiers : Row → List (List ℕ) → Type 0

@@ -4,7 +4,7 @@ use Rattle.std.specs.Int.Digits.{digits_of}
 use Rattle.std.specs.Str.Parse.{digits_value}
 use Rattle.d_table.specs.Table.{cell_in}
 use Rattle.d_urdb.specs.declared.names.Structure.{Structure}
-use Rattle.d_urdb.specs.declared.names.Structure.TheVariants.{Energy, Demand, FlatDemand}
+use Rattle.d_urdb.specs.declared.names.Structure.TheVariants.{Energy, Demand, FlatDemand, Coincident}
 use Rattle.d_urdb.specs.declared.names.Part.{Part}
 use Rattle.d_urdb.specs.declared.names.Part.TheVariants.{Max, Unit, Rate, Adj, Sell}
 
@@ -13,6 +13,7 @@ abbrev pub structure_number : Structure → ℕ
 structure_number Energy = 0
 structure_number Demand = 1
 structure_number FlatDemand = 2
+structure_number Coincident = 3
 
 -- the parts, counted from 0
 abbrev pub part_number : Part → ℕ
@@ -27,6 +28,7 @@ abbrev pub structure_text : Structure → List ℕ
 structure_text Energy = codes "energyratestructure"
 structure_text Demand = codes "demandratestructure"
 structure_text FlatDemand = codes "flatdemandstructure"
+structure_text Coincident = codes "coincidentratestructure"
 
 -- how the names of a part end
 abbrev pub part_text : Part → List ℕ

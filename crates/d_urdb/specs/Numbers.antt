@@ -3,7 +3,8 @@ use Rattle.std.specs.Prelude.{◌≡◌, ◌≢◌, ◌⊎◌, ℕ, ◌^◌, ℤ
 use Rattle.std.proofs.Math.ListN.{replicate}
 use Rattle.d_text.specs.Decimal.{Written, IsDecimalText, IsFormFault, IsInLimit}
 use Rattle.d_text.specs.Fault.{IsDecimalOf, IsDecimalFault, IsFloorOf}
-use Rattle.d_text.specs.Grid.{IsGridOf, IsGridFault}
+use Rattle.d_text.specs.Grid.{IsGridOf, IsGridFault, IsListOf, IsListFault}
+use Rattle.d_text.specs.declared.items.Span.{Span}
 use Rattle.d_text.specs.declared.decimal.DecimalFault.{DecimalFault}
 use Rattle.d_text.specs.declared.decimal.DecimalFault.TheVariants.{Empty, Form, TooLarge, TooFine}
 use Rattle.d_urdb.specs.declared.names.Structure.{Structure}
@@ -40,11 +41,17 @@ abbrev pub IsHours : List ℕ → Result (List (List ℕ)) ℕ → Type 0
 IsHours cell (Ok rows) = ((cell ≡ []) × (rows ≡ zero_hours)) ⊎ IsGridOf cell rows
 IsHours cell (Err place) = (cell ≢ []) × IsGridFault cell place
 
+-- where the twelve items of a list stand, or the place at which the cell is no list
+abbrev pub IsList : List ℕ → Result (List Span) ℕ → Type 0
+IsList cell (Ok spans) = IsListOf cell spans
+IsList cell (Err place) = IsListFault cell place
+
 -- how all cells are read
 pub record Readings : Type 0 where
   pub number : ℕ → List ℕ → Result ℤ DecimalFault
   pub end : List ℕ → Result (Option ℤ) DecimalFault
   pub hours : List ℕ → Result (List (List ℕ)) ℕ
+  pub spans : List ℕ → Result (List Span) ℕ
   pub hole : Row → Structure → ℕ → Option ℕ
 
 -- each cell is read as it has to be
@@ -52,6 +59,7 @@ pub record AreReadings (readings : Readings) : Type 0 where
   pub number_is : (limit : ℕ) (cell : List ℕ) → IsNumber limit cell (readings.number limit cell)
   pub end_is : (cell : List ℕ) → IsEnd cell (readings.end cell)
   pub hours_is : (cell : List ℕ) → IsHours cell (readings.hours cell)
+  pub spans_is : (cell : List ℕ) → IsList cell (readings.spans cell)
   pub hole_is : (row : Row) (structure : Structure) (period : ℕ) → IsLeastHole row structure period (readings.hole row structure period)
 
 -- there is one way to read all cells, and no other

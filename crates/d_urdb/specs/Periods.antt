@@ -1,6 +1,7 @@
 -- The periods of a record's structures: why one is refused, and what its tiers are.
-use Rattle.std.specs.Prelude.{ℕ, zero, suc, Bool, false, not, ◌&&◌, ◌||◌, ℤ, pos, ◌+ℤ◌, int_lt, List, [], ◌∷◌, ◌++◌, bytes_eq, codes, Option, None, Some, option_map, unwrap_or, Result, Ok, Err, map, find, if◌then◌else◌}
+use Rattle.std.specs.Prelude.{ℕ, zero, suc, Bool, false, not, ◌&&◌, ◌||◌, ℤ, pos, ◌+ℤ◌, int_lt, List, [], ◌∷◌, ◌++◌, bytes_eq, codes, Option, None, Some, option_map, unwrap_or, true, Result, Ok, Err, map, find, if◌then◌else◌}
 use Rattle.std.specs.List.{range_with_len}
+use Rattle.std.specs.Option.{option_or}
 use Rattle.std.specs.Ordering.{int_eq}
 use Rattle.std.specs.Str.{str_to_ascii_lowercase}
 use Rattle.d_text.specs.declared.decimal.DecimalFault.{DecimalFault}
@@ -9,7 +10,7 @@ use Rattle.d_tier.specs.Tables.{open_tier, with_tier}
 use Rattle.d_tariff.specs.declared.period.Period.{Period}
 use Rattle.d_urdb.specs.declared.fault.Refused.{Refused}
 use Rattle.d_urdb.specs.declared.names.Structure.{Structure}
-use Rattle.d_urdb.specs.declared.names.Structure.TheVariants.{Energy}
+use Rattle.d_urdb.specs.declared.names.Structure.TheVariants.{Energy, Demand, FlatDemand, Coincident}
 use Rattle.d_urdb.specs.declared.names.Part.{Part}
 use Rattle.d_urdb.specs.declared.names.Part.TheVariants.{Max, Unit, Rate, Adj, Sell}
 use Rattle.d_urdb.specs.Numbers.{Readings}
@@ -134,6 +135,22 @@ abbrev pub sell_refusal : Readings → Row → Structure → ℕ → ℕ → Opt
 sell_refusal readings row structure period tier =
     when (has_other_sell readings row structure period tier) (refusal row.header 10 (part_column row structure period tier Sell) 0)
 
+-- what is drawn for demand is never paid for, so no price of demand is below 0 (our own rule)
+abbrev pub is_demand : Structure → Bool
+is_demand Energy = false
+is_demand Demand = true
+is_demand FlatDemand = true
+is_demand Coincident = false
+
+abbrev pub has_negative_price : Readings → Row → Structure → ℕ → ℕ → Bool
+has_negative_price readings row structure period tier = is_demand structure && int_lt (price_of readings row structure period tier) (pos 0)
+
+-- 11: a price of demand is below 0; the column of what is added to the rate is named where the header has it, else that of the rate
+abbrev pub fall_refusal : Readings → Row → Structure → ℕ → ℕ → Option Refused
+fall_refusal readings row structure period tier =
+    when (has_negative_price readings row structure period tier)
+    (refusal row.header 11 (option_or (part_column row structure period tier Adj) (part_column row structure period tier Rate)) 0)
+
 -- all refusals of a period, in order
 unfoldable pub period_refusals : Readings → Row → Structure → ℕ → List (Option Refused)
 period_refusals readings row structure period =
@@ -142,6 +159,7 @@ period_refusals readings row structure period =
     ++ each 16 (λ tier. unit_refusal row structure period tier ∷ [])
     ++ each 16 (λ tier. order_refusal readings row structure period tier ∷ [])
     ++ each 16 (λ tier. sell_refusal readings row structure period tier ∷ [])
+    ++ each 16 (λ tier. fall_refusal readings row structure period tier ∷ [])
 
 -- the tiers 0 to `last` of a period, neighbours of one price joined
 unfoldable pub tiers_to : Readings → Row → Structure → ℕ → ℕ → List Tier

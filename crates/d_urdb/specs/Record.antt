@@ -1,21 +1,24 @@
 -- The record of a label in a table: the tariff that it is, or why it is refused. The names of the columns and what they mean are the
 -- Utility Rate Database's; the limits, the numbers of the refusals and their order are our own.
-use Rattle.std.specs.Prelude.{◌≡◌, ℕ, Bool, false, not, ◌&&◌, ◌||◌, pos, List, [], ◌∷◌, ◌++◌, length, take, drop, filter, bytes_eq, codes, Option, None, Some, Result, Ok, Err}
-use Rattle.std.specs.List.{list_any}
+use Rattle.std.specs.Prelude.{◌≡◌, ℕ, Bool, false, not, ◌&&◌, ◌||◌, List, [], ◌∷◌, ◌++◌, drop, filter, bytes_eq, codes, Option, None, Some, Result, Ok, Err}
 use Rattle.std.specs.Str.{str_to_ascii_lowercase}
-use Rattle.std.proofs.Math.ListN.{replicate}
-use Rattle.d_table.specs.Table.{row_at, cell_in, column_of, has_value}
+use Rattle.d_table.specs.Table.{row_at, column_of, has_value}
 use Rattle.d_tariff.specs.Terms.{Terms}
-use Rattle.d_tariff.specs.declared.charge.ChargeUnit.TheVariants.{Month}
 use Rattle.d_urdb.specs.declared.fault.Refused.{Refused}
 use Rattle.d_urdb.specs.declared.rule.RuleChoice.{RuleChoice}
 use Rattle.d_urdb.specs.declared.rule.RuleChoice.TheVariants.{AsRecorded, NetBilling}
-use Rattle.d_urdb.specs.declared.names.Structure.TheVariants.{Energy}
-use Rattle.d_urdb.specs.Numbers.{Readings, AreReadings, zero_hours}
+use Rattle.d_urdb.specs.declared.names.Structure.TheVariants.{Energy, Demand, FlatDemand}
+use Rattle.d_urdb.specs.Adjustments.{coincident_refusals, reactive_refusals, fuel_refusals}
+use Rattle.d_urdb.specs.Charges.{fixed_name, fixed_unit_name, charge_refusals, minimum_refusals, annual_refusals, fixed_of, minimum_of}
+use Rattle.d_urdb.specs.Demand.{demand_unit_name, flat_unit_name, demand_weekday_name, demand_weekend_name, demand_unit_refusal, demand_hours_refusals, demand_periods}
+use Rattle.d_urdb.specs.FlatMonths.{month_refusals, flat_months}
+use Rattle.d_urdb.specs.Hours.{hours_refusals, hours_in, weekday_name, weekend_name}
+use Rattle.d_urdb.specs.Ignored.{ignored_columns}
+use Rattle.d_urdb.specs.Numbers.{Readings, AreReadings}
+use Rattle.d_urdb.specs.Periods.{period_refusals, energy_periods}
+use Rattle.d_urdb.specs.Ratchets.{ratchet_refusals, ratchets}
 use Rattle.d_urdb.specs.Refusals.{first_of, each, refusal, when}
 use Rattle.d_urdb.specs.Tiers.{Row, named_cell, is_filled}
-use Rattle.d_urdb.specs.Periods.{period_refusals, energy_periods}
-use Rattle.d_urdb.specs.Hours.{hours_refusals, hours_in, weekday_name, weekend_name}
 
 -- the column of the rule of billing
 abbrev pub rule_name : List ℕ
@@ -44,69 +47,52 @@ rule_refusals row AsRecorded =
     (rule_refusal row 21)
     ∷ []
 
--- the names of columns that aren't read yet
-abbrev pub later_names : List (List ℕ)
-later_names =
-    codes "demandrateunit" ∷ codes "demandweekdayschedule" ∷ codes "demandweekendschedule" ∷ codes "flatdemandunit"
-    ∷ codes "flatdemandmonths" ∷ codes "flatdemandmonth1" ∷ codes "flatdemandmonth2" ∷ codes "flatdemandmonth3"
-    ∷ codes "flatdemandmonth4" ∷ codes "flatdemandmonth5" ∷ codes "flatdemandmonth6" ∷ codes "flatdemandmonth7"
-    ∷ codes "flatdemandmonth8" ∷ codes "flatdemandmonth9" ∷ codes "flatdemandmonth10" ∷ codes "flatdemandmonth11"
-    ∷ codes "flatdemandmonth12" ∷ codes "demandratchetpercentage" ∷ codes "demandratchetpercentage1" ∷ codes "demandratchetpercentage2"
-    ∷ codes "demandratchetpercentage3" ∷ codes "demandratchetpercentage4" ∷ codes "demandratchetpercentage5" ∷ codes "demandratchetpercentage6"
-    ∷ codes "demandratchetpercentage7" ∷ codes "demandratchetpercentage8" ∷ codes "demandratchetpercentage9" ∷ codes "demandratchetpercentage10"
-    ∷ codes "demandratchetpercentage11" ∷ codes "demandratchetpercentage12" ∷ codes "lookbackpercent" ∷ codes "fixedchargefirstmeter"
-    ∷ codes "fixedchargeunits" ∷ codes "mincharge" ∷ codes "minchargeunits" ∷ codes "annualmincharge"
-    ∷ codes "demandreactivepowercharge" ∷ codes "fueladjustmentsmonthly" ∷ codes "fueladjustmentsmonthly1" ∷ codes "fueladjustmentsmonthly2"
-    ∷ codes "fueladjustmentsmonthly3" ∷ codes "fueladjustmentsmonthly4" ∷ codes "fueladjustmentsmonthly5" ∷ codes "fueladjustmentsmonthly6"
-    ∷ codes "fueladjustmentsmonthly7" ∷ codes "fueladjustmentsmonthly8" ∷ codes "fueladjustmentsmonthly9" ∷ codes "fueladjustmentsmonthly10"
-    ∷ codes "fueladjustmentsmonthly11" ∷ codes "fueladjustmentsmonthly12" ∷ []
+-- the refusals of the rule of billing, of the energy periods and of their hours, in order
+abbrev pub energy_section : Readings → Row → RuleChoice → List (Option Refused)
+energy_section readings row rule = rule_refusals row rule ++ (each 36 (period_refusals readings row Energy) ++ hours_refusals readings row)
 
--- how the names of structures that aren't read yet begin
-abbrev pub later_fronts : List (List ℕ)
-later_fronts = codes "demandratestructure/" ∷ codes "flatdemandstructure/" ∷ codes "coincidentratestructure/" ∷ []
+-- those of the demand periods, of their unit and of their hours
+abbrev pub demand_section : Readings → Row → List (Option Refused)
+demand_section readings row =
+    each 36 (period_refusals readings row Demand) ++ ((demand_unit_refusal row demand_unit_name ∷ []) ++ demand_hours_refusals readings row)
 
--- whether a text begins with this
-abbrev pub begins_with : List ℕ → List ℕ → Bool
-begins_with text front = bytes_eq (take (length front) text) front
+-- those of the flat demand periods, of their unit and of their months
+abbrev pub flat_section : Readings → Row → List (Option Refused)
+flat_section readings row =
+    each 36 (period_refusals readings row FlatDemand) ++ ((demand_unit_refusal row flat_unit_name ∷ []) ++ month_refusals readings row)
 
--- whether a column isn't read yet, by its name in small letters
-unfoldable pub is_later : List ℕ → Bool
-is_later name = list_any (bytes_eq name) later_names || list_any (begins_with name) later_fronts
-
--- 23: a column that isn't read yet is filled
-abbrev pub later_refusal : Row → ℕ → Option Refused
-later_refusal row column =
-    when (is_filled (cell_in row.cells column) && is_later (str_to_ascii_lowercase (cell_in row.header column)))
-    (refusal row.header 23 (Some column) 0)
+-- those of what isn't billed
+abbrev pub adjustment_section : Readings → Row → List (Option Refused)
+adjustment_section readings row = coincident_refusals readings row ++ (reactive_refusals readings row ++ fuel_refusals readings row)
 
 -- all refusals of a row, in order
 unfoldable pub row_refusals : Readings → Row → RuleChoice → List (Option Refused)
 row_refusals readings row rule =
-    rule_refusals row rule
-    ++ each 36 (period_refusals readings row Energy)
-    ++ hours_refusals readings row
-    ++ each (length row.header) (λ column. later_refusal row column ∷ [])
+    energy_section readings row rule
+    ++ (demand_section readings row
+    ++ (flat_section readings row
+    ++ (ratchet_refusals readings row
+    ++ (charge_refusals readings row fixed_name fixed_unit_name
+    ++ (minimum_refusals readings row
+    ++ (annual_refusals readings row
+    ++ adjustment_section readings row))))))
 
--- no demand period
-abbrev pub no_demand : {A : Type 0} → List (Option A)
-no_demand = replicate 36 None
-
--- the terms of a row that isn't refused; demand, charges and the columns that nothing is read from aren't read yet
+-- the terms of a row that isn't refused
 unfoldable pub row_terms : Readings → Row → RuleChoice → Terms
 row_terms readings row rule = record {
   energy = energy_periods readings row;
-  demand = no_demand;
-  flat = no_demand;
+  demand = demand_periods readings row Demand;
+  flat = demand_periods readings row FlatDemand;
   energy_weekday = hours_in readings row weekday_name;
   energy_weekend = hours_in readings row weekend_name;
-  demand_weekday = zero_hours;
-  demand_weekend = zero_hours;
-  flat_months = replicate 12 0;
-  ratchet = replicate 12 0;
-  fixed = record { amount = pos 0; unit = Month };
-  minimum = None;
+  demand_weekday = hours_in readings row demand_weekday_name;
+  demand_weekend = hours_in readings row demand_weekend_name;
+  flat_months = flat_months readings row;
+  ratchet = ratchets readings row;
+  fixed = fixed_of readings row;
+  minimum = minimum_of readings row;
   hourly = is_hourly row rule;
-  ignored = [];
+  ignored = ignored_columns row;
 }
 
 -- a refusal where one comes, else the terms

@@ -3,7 +3,7 @@ use Rattle.std.specs.Prelude.{◌≡◌, ℕ, zero, suc, ◌<◌, Bool, true, fa
 use Rattle.std.specs.List.{list_any}
 use Rattle.d_table.specs.Table.{row_at, column_of}
 use Rattle.d_urdb.specs.declared.names.Structure.{Structure}
-use Rattle.d_urdb.specs.declared.names.Structure.TheVariants.{Energy, Demand, FlatDemand}
+use Rattle.d_urdb.specs.declared.names.Structure.TheVariants.{Energy, Demand, FlatDemand, Coincident}
 use Rattle.d_urdb.specs.declared.names.Part.{Part}
 use Rattle.d_urdb.specs.declared.names.Part.TheVariants.{Max, Unit, Rate, Adj, Sell}
 use Rattle.d_urdb.specs.Names.{tier_name, cell_at}
@@ -26,7 +26,7 @@ abbrev pub is_filled : List ℕ → Bool
 is_filled [] = false
 is_filled (byte ∷ bytes) = true
 
--- the parts that the tiers of a structure have: units and sell rates are for energy alone
+-- the parts that the tiers of a structure have: units and sell rates are for energy alone, and tiers of coincident demand have no end
 abbrev pub has_part : Structure → Part → Bool
 has_part Energy part = true
 has_part Demand Unit = false
@@ -35,6 +35,9 @@ has_part Demand part = true
 has_part FlatDemand Unit = false
 has_part FlatDemand Sell = false
 has_part FlatDemand part = true
+has_part Coincident Rate = true
+has_part Coincident Adj = true
+has_part Coincident part = false
 
 -- the column of a part of a tier
 abbrev pub part_column : Row → Structure → ℕ → ℕ → Part → Option ℕ

@@ -5,7 +5,7 @@ ghost use Rattle.d_urdb.specs.Shown.{row_of};
 ghost use Rattle.d_urdb.specs.Tiers.{IsLeastHole, has_tier, is_hole, part_column};
 ghost use Rattle.d_urdb.specs.Numbers.{Readings, AreReadings};
 ghost use Rattle.d_urdb.specs.Periods as spec;
-ghost use Rattle.d_urdb.specs.Values.{HasRisingEnds};
+ghost use Rattle.d_urdb.specs.Values.{HasRisingEnds, HasSoundTiers};
 ghost use Rattle.d_urdb.specs.Checks.{Checks, ChecksOrNot, IsHoleCheck, IsInnerHole, tier_refusals};
 ghost use Rattle.d_urdb.specs.Refusals.{each};
 
@@ -35,12 +35,17 @@ impl<'a> Record<'a> {
         requires { period ≤ 35 }
         ensures refusals { ChecksOrNot (λ readings. spec.period_refusals readings (row_of self.now) structure period) result }
         ensures rising { OnOk result (HasRisingEnds (row_of self.now) structure period) }
+        ensures prices { OnOk result (HasSoundTiers (row_of self.now) structure period) }
     {
         self.check_holes(alloc, structure, period)?;
+        if !self.has_tier(structure, period, 0) {
+            return Ok(());
+        }
         self.check_tiers(TierRule::Numbers, structure, period)?;
         self.check_tiers(TierRule::Units, structure, period)?;
         self.check_tiers(TierRule::Order, structure, period)?;
         self.check_tiers(TierRule::Sells, structure, period)?;
+        self.check_tiers(TierRule::Falls, structure, period)?;
         Ok(())
     }
 
@@ -120,6 +125,7 @@ impl<'a> Record<'a> {
             TierRule::Units => self.check_unit(structure, period, tier),
             TierRule::Order => self.check_order(structure, period, tier),
             TierRule::Sells => self.check_sell(structure, period, tier),
+            TierRule::Falls => self.check_fall(structure, period, tier),
         }
     }
 
@@ -156,7 +162,7 @@ impl<'a> Record<'a> {
     }
 
     /// Tests that a price of a tier can be read.
-    fn check_number(
+    pub(crate) fn check_number(
         &self,
         structure: Structure,
         period: u8,
@@ -230,9 +236,12 @@ impl<'a> Record<'a> {
         requires few { has_tier (row_of self.now) structure period 16 ≡ false }
         ensures { (readings : Readings) → AreReadings readings → result ≡ spec.breaks_order readings (row_of self.now) structure period tier }
     {
+        if self.is_last(structure, period, tier) {
+            return false;
+        }
         let begin = self.begin_of(structure, period, tier);
         let end = self.end_of(structure, period, tier);
-        !self.is_last(structure, period, tier) && !is_above(begin, end)
+        !is_above(begin, end)
     }
 
     /// Tests that a tier's sell rate is its period's.
@@ -254,9 +263,38 @@ impl<'a> Record<'a> {
         requires tier { tier ≤ 15 }
         ensures { (readings : Readings) → AreReadings readings → result ≡ spec.has_other_sell readings (row_of self.now) structure period tier }
     {
+        if !self.is_filled(structure, period, tier, Part::Sell) {
+            return false;
+        }
         let price = self.price_in(structure, period, tier, Part::Sell);
         let sell = self.sell_of(structure, period);
-        self.is_filled(structure, period, tier, Part::Sell) && price != sell
+        price != sell
+    }
+
+    /// Tests that a price of demand isn't below 0.
+    fn check_fall(&self, structure: Structure, period: u8, tier: u8) -> Result<(), Refused>
+        requires period { period ≤ 35 }
+        requires tier { tier ≤ 15 }
+        ensures { Checks (λ readings. spec.fall_refusal readings (row_of self.now) structure period tier ∷ []) result }
+    {
+        if self.has_negative_price(structure, period, tier) {
+            let added = self.part_column(structure, period, tier, Part::Adj);
+            let rate = self.part_column(structure, period, tier, Part::Rate);
+            return Err(self.refusal(11, added.or(rate), 0));
+        }
+        Ok(())
+    }
+
+    /// Whether the price of a tier of demand is below 0.
+    fn has_negative_price(&self, structure: Structure, period: u8, tier: u8) -> bool
+        requires period { period ≤ 35 }
+        requires tier { tier ≤ 15 }
+        ensures { (readings : Readings) → AreReadings readings → result ≡ spec.has_negative_price readings (row_of self.now) structure period tier }
+    {
+        if !structure.is_demand() {
+            return false;
+        }
+        self.price_of(structure, period, tier).units() < 0
     }
 }
 

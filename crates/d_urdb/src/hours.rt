@@ -32,7 +32,7 @@ impl<'a> Record<'a> {
 
     /// The period of each hour in the column of that name, which is in small letters, or why its cell is no grid. A blank cell is
     /// period 0 everywhere.
-    fn hours(&self, name: &[u8]) -> Result<[[u8; 24]; 12], Refused>
+    pub(crate) fn hours(&self, name: &[u8]) -> Result<[[u8; 24]; 12], Refused>
         ensures refusals { Checks (λ readings. spec.grid_refusal readings (row_of self.now) name.now ∷ []) result }
         ensures value { IfOk result (λ hours. (readings : Readings) → AreReadings readings → hours ≡ spec.hours_in readings (row_of self.now) name.now) }
         ensures range { IfOk result (All (All (λ period. period ≤ 35))) }

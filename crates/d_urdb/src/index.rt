@@ -21,7 +21,7 @@ const TIERS: usize = 16;
 const PARTS: usize = 5;
 
 // The periods of all structures, and the parts of all their tiers.
-const ALL_PERIODS: usize = 3 * PERIODS;
+const ALL_PERIODS: usize = 4 * PERIODS;
 
 const ALL_PARTS: usize = ALL_PERIODS * TIERS * PARTS;
 
@@ -40,7 +40,7 @@ impl Model for TierIndex {
 
     ghost view = { λ index. record { columns = index.columns.items; marks = index.past_last.items } };
 
-    ghost invariant = { λ index. (length index.columns.items ≡ 8640) × (length index.past_last.items ≡ 108) };
+    ghost invariant = { λ index. (length index.columns.items ≡ 11520) × (length index.past_last.items ≡ 144) };
 }
 
 impl TierIndex {
@@ -137,7 +137,7 @@ impl TierIndex {
 fn period_place(structure: Structure, period: u8) -> usize
     requires { period ≤ 35 }
     ensures value { result ≡ spec.period_place structure period }
-    ensures within { result < 108 }
+    ensures within { result < 144 }
 {
     structure.number() * PERIODS + usize::from(period)
 }
@@ -147,7 +147,7 @@ fn part_place(structure: Structure, period: u8, tier: u8, part: Part) -> usize
     requires period { period ≤ 35 }
     requires tier { tier ≤ 15 }
     ensures value { result ≡ spec.part_place structure period tier part }
-    ensures within { result < 8640 }
+    ensures within { result < 11520 }
 {
     (period_place(structure, period) * TIERS + usize::from(tier)) * PARTS + part.number()
 }

@@ -5,16 +5,30 @@
 //! names of tiers past the last that a period has room for, while they are compared.
 #![tactic(auto)]
 
+mod charges;
 mod checks;
+mod coincident;
+mod coincident_rule;
+mod demand;
 mod fault;
+mod flat_months;
+mod fuel;
 mod hours;
+mod ignored;
 mod index;
 mod label;
-mod later;
 mod law;
+mod month_list;
+mod months;
+mod named_number;
 mod names;
 mod number;
+#[cfg(test)]
+mod order_tests;
 mod past;
+mod periods;
+mod ratchets;
+mod reactive;
 mod reading;
 mod record;
 mod row;

@@ -2,6 +2,7 @@
 
 ghost use Rattle.std.specs.Prelude.{◌≡◌, ◌≤◌, ◌<◌, length};
 ghost use Rattle.d_urdb.specs.Names as spec;
+ghost use Rattle.d_urdb.specs.Periods.{is_demand};
 ghost use Rattle.d_urdb.specs.Tiers.{has_part};
 
 /// A group of a record's tiers.
@@ -10,46 +11,57 @@ pub enum Structure {
     Energy,
     Demand,
     FlatDemand,
+    Coincident,
 }
 
 impl Structure {
     /// How the names of its columns begin.
     pub(crate) fn text(self) -> &'static [u8]
         ensures value { result.now ≡ spec.structure_text self }
-        ensures length { length result.now ≤ 19 }
+        ensures length { length result.now ≤ 23 }
     {
         match self {
             Structure::Energy => b"energyratestructure",
             Structure::Demand => b"demandratestructure",
             Structure::FlatDemand => b"flatdemandstructure",
+            Structure::Coincident => b"coincidentratestructure",
         }
     }
 
     /// Its place among the structures, from 0.
     pub(crate) fn number(self) -> usize
         ensures value { result ≡ spec.structure_number self }
-        ensures within { result < 3 }
+        ensures within { result < 4 }
     {
         match self {
             Structure::Energy => 0,
             Structure::Demand => 1,
             Structure::FlatDemand => 2,
+            Structure::Coincident => 3,
         }
     }
 
-    /// Whether its tiers have that part: units and sell rates are for energy alone.
+    /// Whether what it prices is never paid for, so that no price of it may be below 0.
+    pub(crate) fn is_demand(self) -> bool
+        ensures { result ≡ is_demand self }
+    {
+        matches!(self, Structure::Demand | Structure::FlatDemand)
+    }
+
+    /// Whether its tiers have that part: units and sell rates are for energy alone, and tiers of coincident demand have no end.
     pub(crate) fn has_part(self, part: Part) -> bool
         ensures { result ≡ has_part self part }
     {
         match self {
             Structure::Energy => true,
             Structure::Demand | Structure::FlatDemand => !matches!(part, Part::Unit | Part::Sell),
+            Structure::Coincident => matches!(part, Part::Rate | Part::Adj),
         }
     }
 }
 
 /// What a column says of a tier: where it ends, in which unit, its price, what is added to that, and what is paid for energy sent out.
-/// Tiers of demand have `Max`, `Rate` and `Adj` alone.
+/// Tiers of demand have `Max`, `Rate` and `Adj` alone, those of coincident demand `Rate` and `Adj`.
 #[derive(Clone, Copy, PartialEq, Eq, Debug)]
 pub enum Part {
     Max,

@@ -80,6 +80,10 @@ fn read_structure(name: &[u8]) -> Option<Structured<'_>>
         return Some(Structured { structure, rest });
     }
     let structure = Structure::FlatDemand;
+    if let Some(rest) = behind(name, structure.text()) {
+        return Some(Structured { structure, rest });
+    }
+    let structure = Structure::Coincident;
     let rest = behind(name, structure.text())?;
     Some(Structured { structure, rest })
 }

@@ -7,6 +7,7 @@ use crate::reading::read_tier_name;
 use crate::{RecordFault, RuleChoice, read_record};
 use d_num::NoMemory;
 use d_table::read_table;
+use d_tariff::ChargeUnit;
 use std::alloc::Global;
 
 #[test]
@@ -76,7 +77,7 @@ fn other_names_are_not(rt: HostRuntime) {
         "energyratestructure/period0/tier00rate",
         "energyratestructure/period0/tier0rates",
         "energyratestructure/period0/tier0 rate",
-        "coincidentratestructure/period0/tier0rate",
+        "coincidentratestructures/period0/tier0rate",
     ] {
         assert!(rt; read_tier_name(name.as_bytes()).is_none(), "{name}");
     }
@@ -336,13 +337,13 @@ const RECORDS: [(&str, RuleChoice, Outcome); 33] = [
         "label,fixedchargefirstmeter,energyratestructure/period0/tier0rate\n\
         L,45.50,0.10\n",
         RECORDED,
-        Err((23, 1, 0)),
+        Ok(100_000_000_000_000_000),
     ),
     (
         "label,FlatDemandMonth7,flatdemandstructure/period0/tier0rate,energyratestructure/period0/tier0rate\n\
         L,,10,0.10\n",
         RECORDED,
-        Err((23, 2, 0)),
+        Ok(100_000_000_000_000_000),
     ),
 ];
 
@@ -401,4 +402,42 @@ fn hours_are_in_periods_that_are_there(rt: HostRuntime) {
         let found = outcome(rt.alloc(), file.as_str(), RECORDED).expect(&rt, "memory");
         assert_eq!(rt; found, want, "{filled} {number}");
     }
+}
+
+/// Cells of most fields that a tariff has: the twelve months in two ways, a column of one name twice, and columns that nothing is read from.
+const WHOLE: &str =
+    "label,energyratestructure/period0/tier0rate,demandratestructure/period3/tier0max,demandratestructure/period3/tier0rate,\
+    demandratestructure/period3/tier1rate,demandratestructure/period3/tier1adj,flatdemandstructure/period2/tier0rate,\
+    flatdemandmonths,flatdemandmonth1,demandratchetpercentage2,lookbackpercent,fixedchargefirstmeter,fixedchargeunits,mincharge,\
+    demandwindow,energyratestructure/period0/tier0rate,coincidentratestructure/period0/tier16rate,note\n\
+    L,0.10,50,10,12,-1.5,5,\"[2,2,2,2,2,2,2,2,2,2,2,35]\",3,90,0.5,1.50,$/day,20,15,0.9,1,\n";
+
+#[test]
+fn a_whole_record_is_read(rt: HostRuntime) {
+    let table = read_table(rt.alloc(), WHOLE.as_bytes()).expect(&rt, "a table");
+    let tariff = read_record(rt.alloc(), &table, b"L", RECORDED).expect(&rt, "a tariff");
+    let minimum = tariff.minimum;
+    let minimum = minimum.expect(&rt, "a minimum");
+    assert_eq!(rt; minimum.amount.units(), 20_000_000_000_000_000_000_000);
+    assert_eq!(rt; minimum.unit, ChargeUnit::Month);
+    let tiers = tariff.demand_tiers(3).expect(&rt, "tiers of demand");
+    assert_eq!(rt; tiers.count(), 2);
+    assert_eq!(rt; tiers.lowest_price().units(), 10_000_000_000_000_000_000);
+    assert_eq!(rt; tiers.highest_price().units(), 10_500_000_000_000_000_000);
+    assert!(rt; tariff.demand_tiers(0).is_none());
+    let months = tariff.flat_months;
+    assert_eq!(rt; months, [2, 2, 2, 2, 2, 2, 2, 2, 2, 2, 2, 35]);
+    let half = 50_000_000_000_000_000_000;
+    let most = 90_000_000_000_000_000_000;
+    let ratchet = tariff.ratchet;
+    assert_eq!(rt;
+        ratchet,
+        [
+            half, most, half, half, half, half, half, half, half, half, half, half
+        ]
+    );
+    let fixed = tariff.fixed;
+    assert_eq!(rt; fixed.amount.units(), 1_500_000_000_000_000_000_000);
+    assert_eq!(rt; fixed.unit, ChargeUnit::Day);
+    assert_eq!(rt; tariff.ignored.as_slice(), [8, 14, 15, 16].as_slice());
 }

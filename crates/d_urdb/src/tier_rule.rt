@@ -11,4 +11,6 @@ pub(crate) enum TierRule {
     Order,
     /// Its sell rate is the period's.
     Sells,
+    /// Its price isn't below 0, where it is one of demand.
+    Falls,
 }

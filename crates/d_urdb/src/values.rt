@@ -37,7 +37,7 @@ impl<'a> Record<'a> {
     }
 
     /// What a tier costs: its rate and what is added to that.
-    fn price_of(&self, structure: Structure, period: u8, tier: u8) -> Rate
+    pub(crate) fn price_of(&self, structure: Structure, period: u8, tier: u8) -> Rate
         requires period { period ≤ 35 }
         requires tier { tier ≤ 15 }
         ensures value { (readings : Readings) → AreReadings readings → result ≡ spec.price_of readings (row_of self.now) structure period tier }

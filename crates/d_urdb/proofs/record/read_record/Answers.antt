@@ -8,13 +8,13 @@ returns-in_err-row-clause-refused c =
     let p = err_from_is_err_and c.from_residual.result c.from_residual.ensures.1 in
     rw (p.1, p.2) (λ refused. label_refused c.args.table.now c.args.label.now c.args.rule c.in_err-row.field-0.0 refused c.in_err-row.ensures.refused)
 
-pub returns-in_err-hours-clause-refused : goal.returns-in_err-hours-clause-refused
-returns-in_err-hours-clause-refused c =
-    let p = err_from_is_err_and c.from_residual-in_err-hours.result c.from_residual-in_err-hours.ensures.1 in
-    rw (p.1, p.2) (λ refused. row_refused c.args.table.now c.args.label.now c.in_ok-row.row c.args.rule c.in_err-hours.field-0.0 refused
-    c.in_ok-row.ensures.row c.in_err-hours.ensures.refusals)
+pub returns-in_err-accepted-clause-refused : goal.returns-in_err-accepted-clause-refused
+returns-in_err-accepted-clause-refused c =
+    let p = err_from_is_err_and c.from_residual-in_err-accepted.result c.from_residual-in_err-accepted.ensures.1 in
+    rw (p.1, p.2) (λ refused. row_refused c.args.table.now c.args.label.now c.in_ok-row.row c.args.rule c.in_err-accepted.field-0.0 refused
+    c.in_ok-row.ensures.row c.in_err-accepted.ensures.refusals)
 
 pub returns-clause-tariff : goal.returns-clause-tariff
 returns-clause-tariff c =
     row_read c.args.table.now c.args.label.now c.in_ok-row.row c.args.rule (terms_of c.in_ok-tariff.tariff)
-    c.in_ok-row.ensures.row c.in_ok-hours.ensures.refusals c.in_ok-tariff.ensures
+    c.in_ok-row.ensures.row c.in_ok-accepted.ensures.refusals c.in_ok-tariff.ensures

@@ -1,0 +1,93 @@
+//! The flat demand period of each month.
+
+ghost use Rattle.std.specs.Prelude.{◌≡◌, ◌<◌, ◌≤◌, ◌∷◌, [], All, IfOk, IfSome};
+ghost use Rattle.d_urdb.specs.Checks.{Checks};
+ghost use Rattle.d_urdb.specs.FlatMonths as spec;
+ghost use Rattle.d_urdb.specs.Items.{AreItemsOf};
+ghost use Rattle.d_urdb.specs.Numbers.{Readings, AreReadings};
+ghost use Rattle.d_urdb.specs.PeriodDigits.{with_digit};
+ghost use Rattle.d_urdb.specs.Refusals.{each};
+ghost use Rattle.d_urdb.specs.Shown.{row_of};
+
+use crate::fault::Refused;
+use crate::month_list::MonthList;
+use crate::months::Items;
+use crate::row::Record;
+
+// How many flat demand periods there are.
+const PERIODS: u16 = 36;
+
+impl<'a> Record<'a> {
+    /// The flat demand period of each month, or why there are none.
+    pub(crate) fn flat_months(&self) -> Result<[u8; 12], Refused>
+        ensures refusals { Checks (λ readings. spec.month_refusals readings (row_of self.now)) result }
+        ensures value { IfOk result (λ months. (readings : Readings) → AreReadings readings → months ≡ spec.flat_months readings (row_of self.now)) }
+        ensures range { IfOk result (All (λ period. period ≤ 35)) }
+    {
+        let items = self.items(MonthList::FlatPeriods)?;
+        self.periods_of(&items)
+    }
+
+    /// The periods that the items say.
+    fn periods_of(&self, items: &Items) -> Result<[u8; 12], Refused>
+        requires { AreItemsOf (row_of self.now) MonthList.FlatPeriods items.now }
+        ensures refusals { Checks (λ readings. each 12 (λ month. spec.month_refusal readings (row_of self.now) month ∷ [])) result }
+        ensures value { IfOk result (λ months. (readings : Readings) → AreReadings readings → months ≡ spec.flat_months readings (row_of self.now)) }
+        ensures range { IfOk result (All (λ period. period ≤ 35)) }
+    {
+        let mut months = [0; 12];
+        for month in 0..12 {
+            months[usize::from(month)] = self.period_of(items, month)?;
+        }
+        Ok(months)
+    }
+
+    /// The period that a month's item says, or why it says none.
+    fn period_of(&self, items: &Items, month: u8) -> Result<u8, Refused>
+        requires month { month < 12 }
+        requires items { AreItemsOf (row_of self.now) MonthList.FlatPeriods items.now }
+        ensures refusals { Checks (λ readings. spec.month_refusal readings (row_of self.now) month ∷ []) result }
+        ensures value { IfOk result (λ period. (readings : Readings) → AreReadings readings → period ≡ spec.flat_month readings (row_of self.now) month) }
+        ensures range { IfOk result (λ period. period ≤ 35) }
+    {
+        match read_period(self.item(items, month)) {
+            Some(period) => Ok(period),
+            None => {
+                let column = self.item_column(items, month);
+                Err(self.refusal(5, column, 0))
+            }
+        }
+    }
+}
+
+/// The period that a text says: a whole number from 0 to 35, with zeros in front of it or none. A blank text says 0.
+fn read_period(text: &[u8]) -> Option<u8>
+    ensures value { result ≡ spec.period_in text.now }
+    ensures range { IfSome result (λ period. period ≤ 35) }
+{
+    let mut number = 0;
+    for place in 0..text.len() {
+        match with_digit(number, text[place]) {
+            Some(next) => number = next,
+            None => return None,
+        }
+    }
+    Some(number)
+}
+
+/// The number with one more digit at its end, or None where the byte is no digit or the number passes 35.
+fn with_digit(number: u8, byte: u8) -> Option<u8>
+    requires { number ≤ 35 }
+    ensures value { result ≡ with_digit number byte }
+    ensures range { IfSome result (λ next. next ≤ 35) }
+{
+    if byte < b'0' || byte > b'9' {
+        return None;
+    }
+    let next = u16::from(number) * 10 + u16::from(byte - b'0');
+    if next < PERIODS {
+        Some(next as u8)
+    } else {
+        None
+    }
+}
