@@ -1,5 +1,6 @@
 -- By its terms a month has one price of energy, or none.
-use Rattle.std.proofs.Common.{◌≡◌, ℕ, zero, suc, ◌+◌, ◌<◌, ℤ, pos, negsuc, List, [], ◌∷◌, length, Option, None, Some, IfNone, sym, ap, subst, ◌∙◌, arith}
+use Rattle.std.specs.Option.{ForSome}
+use Rattle.std.proofs.Common.{◌≡◌, ℕ, zero, suc, ◌+◌, ◌-◌, ◌<◌, refl, slice_index, ℤ, pos, negsuc, List, [], ◌∷◌, length, Option, None, Some, IfNone, sym, ap, subst, ◌∙◌, arith}
 use Rattle.std.proofs.lemmas.Int.{ints}
 use mir.Val.{of_z}
 use mir.Syntax.{w128}
@@ -10,10 +11,11 @@ use Rattle.d_cal.specs.Calendar.{IsDayOf}
 use Rattle.d_cal.specs.Schedules.{period_of}
 use Rattle.d_tier.specs.declared.tier.Tier.{Tier}
 use Rattle.d_tier.specs.Tables.{IsTierTable, AreTiersFrom, open_tier, price_at}
-use Rattle.d_tariff.specs.Terms.{Terms, period_at}
+use Rattle.d_tariff.specs.declared.charge.Charge.{Charge}
+use Rattle.d_tariff.specs.Terms.{Terms, period_at, tiers_at}
 use Rattle.d_tariff.specs.declared.period.Period.{Period}
-use Rattle.dispatch.specs.Record.{IsOnlyPeriod, IsOnePrice, flat_period}
-use Rattle.dispatch.proofs.Deciding.{Decided, holds, fails, Found, found, nothing, restated, same_number, same_integer, each_below}
+use Rattle.dispatch.specs.Record.{IsOnlyPeriod, IsOnePrice, IsFree, HasFreeHours, IsEnergyAlone, flat_period}
+use Rattle.dispatch.proofs.Deciding.{Decided, holds, fails, Found, found, nothing, restated, both, same_number, same_integer, each_below}
 
 -- each month has a first day
 first_day : (year : ℤ) (number : ℕ) → IsDayOf year number 1
@@ -127,17 +129,60 @@ flat_found (Some period) = by_tiers period.tiers period.sell
     by_tiers (tier ∷ []) sell = by_end tier.price sell tier.end
     by_tiers (tier ∷ next ∷ rest) sell = nothing (λ price same. let tiers = tiers_of (made (tier ∷ next ∷ rest) sell) (flat_period price) same in absurd (cc))
 
+-- whether tiers are free
+free_decided : (tiers : List Tier) → Decided (IsFree tiers)
+free_decided tiers = each_below (λ tier. price_at tiers tier ≡ pos 0) (λ tier. same_integer (price_at tiers tier) (pos 0)) (length tiers)
+
+some_free : (tiers : Option (List Tier)) → Decided (ForSome tiers IsFree)
+some_free None = holds (λ tiers same. absurd (cc))
+some_free (Some tiers) = restated (λ free other same. let is : tiers ≡ other = cc in subst IsFree is free) (λ all. all tiers refl) (free_decided tiers)
+
+no_charge : (charge : Option Charge) → Decided (charge ≡ None)
+no_charge None = holds refl
+no_charge (Some charge) = fails (λ same. absurd (cc))
+
+-- whether energy alone is billed
+alone_decided : (terms : Terms) (year : ℤ) (number : ℕ) → Decided (IsEnergyAlone terms year number)
+alone_decided terms year number = restated whole parts
+    (both (both (same_integer terms.fixed.amount (pos 0)) (no_charge terms.minimum))
+    (both (some_free (tiers_at terms.flat (slice_index terms.flat_months (number - 1))))
+    (each_below (λ day. HasFreeHours terms year number (day + 1)) day_decided (days_in_month year number))))
+  where
+    day_decided : (day : ℕ) → Decided (HasFreeHours terms year number (day + 1))
+    day_decided day = each_below (λ hour. ForSome (tiers_at terms.demand (period_of terms.demand_weekday terms.demand_weekend year number (day + 1) hour)) IsFree)
+        (λ hour. some_free (tiers_at terms.demand (period_of terms.demand_weekday terms.demand_weekend year number (day + 1) hour))) 24
+
+    days : ((day : ℕ) → day < days_in_month year number → HasFreeHours terms year number (day + 1)) → (day : ℕ) → IsDayOf year number day → HasFreeHours terms year number day
+    days each zero is = absurd (omega (arith, is.from_first))
+    days each (suc day) is =
+        let next : day + 1 ≡ suc day = omega arith in
+        subst (λ (d : ℕ). HasFreeHours terms year number d) next (each day (omega (arith, is.to_last)))
+
+    whole : ((terms.fixed.amount ≡ pos 0) × (terms.minimum ≡ None)) × (ForSome (tiers_at terms.flat (slice_index terms.flat_months (number - 1))) IsFree
+        × ((day : ℕ) → day < days_in_month year number → HasFreeHours terms year number (day + 1))) → IsEnergyAlone terms year number
+    whole p = record { demand = days p.1.1; flat = p.1.0; fixed = p.0.0; minimum = p.0.1 }
+
+    parts : IsEnergyAlone terms year number → ((terms.fixed.amount ≡ pos 0) × (terms.minimum ≡ None)) × (ForSome (tiers_at terms.flat (slice_index terms.flat_months (number - 1))) IsFree
+        × ((day : ℕ) → day < days_in_month year number → HasFreeHours terms year number (day + 1)))
+    parts is = ((is.fixed, is.minimum), (is.flat, λ day there. is.demand (day + 1) (record { from_first = omega arith; to_last = omega (arith, there) })))
+
 -- the month has one price or none
 pub price_found : (terms : Terms) (year : ℤ) (number : ℕ) → Found (IsOnePrice terms year number)
-price_found terms year number = by_only (only_decided terms.energy_weekday terms.energy_weekend year number (first_period terms year number))
+price_found terms year number = by_alone (alone_decided terms year number)
+    (only_decided terms.energy_weekday terms.energy_weekend year number (first_period terms year number))
     (flat_found (period_at terms.energy (first_period terms year number)))
   where
-    by_only : Decided (IsOnlyPeriod terms.energy_weekday terms.energy_weekend year number (first_period terms year number))
+    by_only : IsEnergyAlone terms year number → Decided (IsOnlyPeriod terms.energy_weekday terms.energy_weekend year number (first_period terms year number))
         → Found (λ price. period_at terms.energy (first_period terms year number) ≡ Some (flat_period price)) → Found (IsOnePrice terms year number)
-    by_only (fails several) flat = nothing (λ price is.
+    by_only alone (fails several) flat = nothing (λ price is.
         let same = only_first terms year number is.period is.only in
         several (subst (λ (p : ℕ). IsOnlyPeriod terms.energy_weekday terms.energy_weekend year number p) same is.only))
-    by_only (holds only) (found price flat) = found price (record { period = first_period terms year number; only = only; flat = flat })
-    by_only (holds only) (nothing none) = nothing (λ price is.
+    by_only alone (holds only) (found price flat) = found price (record { period = first_period terms year number; only = only; flat = flat; alone = alone })
+    by_only alone (holds only) (nothing none) = nothing (λ price is.
         let same = only_first terms year number is.period is.only in
         none price (subst (λ (p : ℕ). period_at terms.energy p ≡ Some (flat_period price)) same is.flat))
+
+    by_alone : Decided (IsEnergyAlone terms year number) → Decided (IsOnlyPeriod terms.energy_weekday terms.energy_weekend year number (first_period terms year number))
+        → Found (λ price. period_at terms.energy (first_period terms year number) ≡ Some (flat_period price)) → Found (IsOnePrice terms year number)
+    by_alone (holds alone) only flat = by_only alone only flat
+    by_alone (fails more) only flat = nothing (λ price is. more is.alone)

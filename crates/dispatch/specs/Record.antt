@@ -1,10 +1,12 @@
--- The record of a label in a record file, and the one price of energy that it may have in a month.
-use Rattle.std.specs.Prelude.{◌≡◌, ℕ, ◌<◌, ℤ, pos, List, [], ◌∷◌, Some, Result, Ok, Err}
+-- The record of a label in a record file, and the one price of energy that it may have in a month that is billed by nothing else.
+use Rattle.std.specs.Prelude.{◌≡◌, ℕ, ◌-◌, ◌<◌, ℤ, pos, List, [], ◌∷◌, length, Some, None, Result, Ok, Err, slice_index}
+use Rattle.std.specs.Option.{ForSome}
 use Rattle.d_table.specs.Table.{IsRectangular, kept_rows}
 use Rattle.d_cal.specs.Calendar.{IsDayOf}
 use Rattle.d_cal.specs.Schedules.{period_of}
-use Rattle.d_tier.specs.Tables.{open_tier}
-use Rattle.d_tariff.specs.Terms.{Terms, period_at}
+use Rattle.d_tier.specs.declared.tier.Tier.{Tier}
+use Rattle.d_tier.specs.Tables.{open_tier, price_at}
+use Rattle.d_tariff.specs.Terms.{Terms, period_at, tiers_at}
 use Rattle.d_tariff.specs.declared.period.Period.{Period}
 use Rattle.d_urdb.specs.Record.{IsOutcome, label_name}
 use Rattle.d_urdb.specs.declared.fault.Refused.{Refused}
@@ -36,8 +38,26 @@ IsOnlyPeriod weekday weekend year number period =
 abbrev pub flat_period : ℤ → Period
 flat_period price = record { tiers = open_tier price ∷ []; sell = pos 0 }
 
--- by these terms all energy of the month has this price
+-- each of these tiers has the price 0
+abbrev pub IsFree : List Tier → Type 0
+IsFree tiers = (tier : ℕ) → tier < length tiers → price_at tiers tier ≡ pos 0
+
+-- in each hour of the day the tiers of the demand period, where it has some, are free
+abbrev pub HasFreeHours : Terms → ℤ → ℕ → ℕ → Type 0
+HasFreeHours terms year number day =
+    (hour : ℕ) → hour < 24 → ForSome (tiers_at terms.demand (period_of terms.demand_weekday terms.demand_weekend year number day hour)) IsFree
+
+-- nothing but energy is billed for the month: no demand period that occurs in it has a price, nor has its flat demand period, there is no
+-- fixed charge, and no minimum
+pub record IsEnergyAlone (terms : Terms) (year : ℤ) (number : ℕ) : Type 0 where
+  pub demand : (day : ℕ) → IsDayOf year number day → HasFreeHours terms year number day
+  pub flat : ForSome (tiers_at terms.flat (slice_index terms.flat_months (number - 1))) IsFree
+  pub fixed : terms.fixed.amount ≡ pos 0
+  pub minimum : terms.minimum ≡ None
+
+-- by these terms energy alone is billed for the month, and all of it has this price
 pub record IsOnePrice (terms : Terms) (year : ℤ) (number : ℕ) (price : ℤ) : Type 0 where
   pub period : ℕ
   pub only : IsOnlyPeriod terms.energy_weekday terms.energy_weekend year number period
   pub flat : period_at terms.energy period ≡ Some (flat_period price)
+  pub alone : IsEnergyAlone terms year number

@@ -68,7 +68,7 @@ fn reads_records(rt: HostRuntime) -> Result<(), Fail> {
         let text = format!(in alloc; "{mark}{RATE}{row}")?;
         assert_eq!(rt; price_in(alloc, text.as_str()), wanted, "of {row:?}");
     }
-    let files: [(&str, bool); 10] = [
+    let files: [(&str, bool); 11] = [
         ("", false),
         ("\n\n", false),
         ("L,0.10\n", false),
@@ -95,6 +95,10 @@ fn reads_records(rt: HostRuntime) -> Result<(), Fail> {
         ),
         (
             "label,energyratestructure/period0/tier0rate,mincharge\nL,0.10,0\n",
+            true,
+        ),
+        (
+            "label,energyratestructure/period0/tier0rate,mincharge\nL,0.10,5\n",
             false,
         ),
     ];

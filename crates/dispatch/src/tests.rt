@@ -238,8 +238,22 @@ fn a_record_is_refused_in_one_line(rt: HostRuntime) -> Result<(), Fail> {
             "13 NetMetering dgRules 0 Net Metering",
         ),
         (
-            ",demandratestructure/\u{e9}\nL,0.10,\u{e9}\n",
-            "23 NotYet demandratestructure/?? 0 ??",
+            ",demandrateunit\nL,0.10,\u{e9}23456789012345678901234567890123456789012345678901234567890X\n",
+            "12 DemandUnit demandrateunit 0 ??2345678901234567890123456789012345678901234567890123456789",
+        ),
+        (
+            ",mincharge,minchargeunits\nL,0.10,5,$/year\n",
+            "18 AnnualMinimum minchargeunits 0 $/year",
+        ),
+        (",fixedchargefirstmeter\nL,0.10,5\n", "23 NotYet none 1"),
+        (",mincharge\nL,0.10,5\n", "23 NotYet none 1"),
+        (
+            ",flatdemandstructure/period0/tier0rate\nL,0.10,5\n",
+            "23 NotYet none 1",
+        ),
+        (
+            ",demandratestructure/period0/tier0rate\nL,0.10,5\n",
+            "23 NotYet none 1",
         ),
         (
             ",energyratestructure/period0/tier0sell\nL,0.10,0.05\n",
