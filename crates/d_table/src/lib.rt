@@ -13,4 +13,4 @@ mod table;
 mod tests;
 
 pub use read::{read_table, read_where};
-pub use table::{Table, TableFault};
+pub use table::{Table, TableFault, is_named};

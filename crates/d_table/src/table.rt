@@ -188,7 +188,7 @@ fn lowered(alloc: Global, cell: &[u8]) -> Result<Vec<u8>, TableFault>
 }
 
 /// Whether the cell is the name, ASCII case ignored. The name is in small letters.
-fn is_named(cell: &[u8], name: &[u8]) -> bool
+pub fn is_named(cell: &[u8], name: &[u8]) -> bool
     ensures { IsTrue result ↔ (str_to_ascii_lowercase cell.now ≡ name.now) }
 {
     if cell.len() != name.len() {
