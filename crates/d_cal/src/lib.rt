@@ -5,8 +5,6 @@
 
 mod month;
 mod schedule;
-#[cfg(test)]
-mod tests;
 
 pub use month::Month;
 pub use schedule::Schedule;

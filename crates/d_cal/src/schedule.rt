@@ -12,7 +12,9 @@ const LAST_PERIOD: u8 = 35;
 /// an entry an hour with midnight first.
 #[derive(Clone, Copy, PartialEq, Eq, Debug)]
 pub struct Schedule {
+    /// The grid of all days from Monday to Friday.
     pub weekday: [[u8; 24]; 12],
+    /// The grid of Saturdays and Sundays.
     pub weekend: [[u8; 24]; 12],
     pub ghost weekday_in_range: { HasPeriods weekday },
     pub ghost weekend_in_range: { HasPeriods weekend },

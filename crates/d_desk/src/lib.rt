@@ -27,5 +27,3 @@ pub use plan::{DeskCall, PlannedFault};
 pub use send::{print_all, save_all};
 pub use sure_desk::SureDesk;
 
-#[cfg(test)]
-mod tests;

@@ -1,15 +1,14 @@
--- What a flow takes, sends and draws.
+-- Import, export and power of a flow.
 use Rattle.std.proofs.Common.{◌≡◌, ℕ, ℤ, pos, negsuc, ◌+ℤ◌, ◌*ℤ◌, ◌*◌, ◌^◌, ◌/◌, ◌≤ℤ◌, Option, Some, None, ◌⊎◌, inl, inr, arith, refl, ap, to_z, of_z, w64}
 use Rattle.std.proofs.lemmas.Int.{ints}
 use Rattle.std.proofs.lemmas.Bool.Decides.{nat_tests}
 use Rattle.std.specs.Prelude.{int_div}
-use Rattle.d_num.specs.Amount.{IsWithin, IsPowerOf}
+use Rattle.d_num.specs.Amount.{IsWithin, IsPowerOf, IsReadingLength}
 use Rattle.d_model.specs.declared.arc.Arc.{Arc}
-use Rattle.d_model.specs.Readings.{IsReadingLength}
 use Rattle.d_model.specs.Inputs.{Inputs}
 use Rattle.d_model.specs.Flows.{import_of, export_of, power_of, permitted_arc, arc_of_flow}
 
--- readings are made every 15, 30 or 60 minutes
+-- the length of a reading's interval, case by case
 pub length_cases : (minutes : ℕ) → IsReadingLength minutes → (minutes ≡ 15) ⊎ ((minutes ≡ 30) ⊎ (minutes ≡ 60))
 length_cases minutes h = grind (arith, nat_tests)
 

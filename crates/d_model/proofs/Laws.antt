@@ -1,10 +1,10 @@
 -- Laws of the definitions: a schedule has one first break at most and none where it is feasible, and inputs have one first least schedule at most.
-use Rattle.std.proofs.Common.{◌≡◌, ◌⊎◌, inl, inr, ℕ, ℤ, pos, ◌<◌, ◌≤ℤ◌, ◌<ℤ◌, List, [], ◌∷◌, length, refl, arith}
-use Rattle.std.proofs.Math.Path.{ap₂}
+use Rattle.std.proofs.Common.{◌≡◌, ◌⊎◌, inl, inr, ℕ, ℤ, pos, ◌<◌, ◌≤ℤ◌, ◌<ℤ◌, List, length, arith}
 use Rattle.std.proofs.lemmas.Int.{ints}
+use Rattle.d_list.proofs.OrderLaws.{IsNotAfter-antisym}
 use Rattle.d_model.specs.Inputs.{Inputs}
 use Rattle.d_model.specs.Schedules.{KeepsAt, IsFeasible, IsFirstBreak, level_at}
-use Rattle.d_model.specs.Bills.{bill_of, IsLeast, IsNotAfter, IsFirstLeast}
+use Rattle.d_model.specs.Bills.{bill_of, IsLeast, IsFirstLeast}
 
 -- nothing is above and at most the same number
 not_both : (a b : ℤ) → a <ℤ b → b ≤ℤ a → ⊥
@@ -34,16 +34,6 @@ first_break_same i s t u first second = order (not_before i s t u first second) 
   where
     order : (t < u → ⊥) → (u < t → ⊥) → t ≡ u
     order low high = omega arith
-
--- two lists neither of which comes after the other are one
-pub IsNotAfter-antisym : (xs ys : List ℕ) → IsNotAfter xs ys → IsNotAfter ys xs → xs ≡ ys
-IsNotAfter-antisym [] [] low high = refl
-IsNotAfter-antisym [] (y ∷ ys) low high = absurd high
-IsNotAfter-antisym (x ∷ xs) [] low high = absurd low
-IsNotAfter-antisym (x ∷ xs) (y ∷ ys) (inl below) (inl above) = absurd (omega arith)
-IsNotAfter-antisym (x ∷ xs) (y ∷ ys) (inl below) (inr above) = let e = above.0 in absurd (omega arith)
-IsNotAfter-antisym (x ∷ xs) (y ∷ ys) (inr below) (inl above) = let e = below.0 in absurd (omega arith)
-IsNotAfter-antisym (x ∷ xs) (y ∷ ys) (inr below) (inr above) = ap₂ ◌∷◌ below.0 (IsNotAfter-antisym xs ys below.1 above.1)
 
 -- two least schedules have one bill
 pub least_bill_same : (i : Inputs) (s z : List ℕ) → IsLeast i s → IsLeast i z → bill_of i s ≡ bill_of i z

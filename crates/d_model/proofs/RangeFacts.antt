@@ -18,12 +18,11 @@ few_intervals count minutes days (inr (inr e)) whole low high = let g : count * 
 -- what a meter and a battery keep is what their problem keeps
 pub plain_in_range : (price : ℤ) (m : Meter) (b : Battery) → IsRate price → IsInRange (plain_of price m b)
 plain_in_range price m b fair =
-    let cases = length_cases m.minutes m.complete.pace in
     let days = days_in_month_bounds m.month.year m.month.number in
-    let few = few_intervals (length m.net) m.minutes _ cases m.complete.whole days.1 days.0 in
+    let few = few_intervals (length m.net) m.minutes _ (length_cases m.minutes m.complete.pace) m.complete.whole days.1 days.0 in
     record {
       month = m.month.in_range;
-      minutes = cases;
+      minutes = m.complete.pace;
       whole = m.complete.whole;
       some_interval = few.0;
       few_intervals = few.1;

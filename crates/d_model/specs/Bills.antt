@@ -1,5 +1,6 @@
 -- The bill of a schedule, and what is best.
-use Rattle.std.specs.Prelude.{◌≡◌, ◌⊎◌, ⊤, ℕ, ℤ, pos, ◌<◌, ◌≤ℤ◌, ◌*ℤ◌, List, [], ◌∷◌, slice_index_or}
+use Rattle.std.specs.Prelude.{◌≡◌, ℕ, ℤ, pos, ◌≤ℤ◌, ◌*ℤ◌, List, slice_index_or}
+use Rattle.d_list.specs.Order.{IsNotAfter}
 use Rattle.d_model.specs.Inputs.{Inputs}
 use Rattle.d_model.specs.Schedules.{IsFeasible}
 use Rattle.d_model.specs.Totals.{Tallied, tally_of, metered_tally}
@@ -21,13 +22,7 @@ pub record IsLeast (i : Inputs) (s : List ℕ) : Type 0 where
   pub feasible : IsFeasible i s
   pub least : (z : List ℕ) → IsFeasible i z → bill_of i s ≤ℤ bill_of i z
 
--- the order of lists of mode numbers: at the first place where they differ, the smaller number comes first
-abbrev pub IsNotAfter : List ℕ → List ℕ → Type 0
-IsNotAfter [] ys = ⊤
-IsNotAfter (x ∷ xs) [] = ⊥
-IsNotAfter (x ∷ xs) (y ∷ ys) = (x < y) ⊎ ((x ≡ y) × IsNotAfter xs ys)
-
--- the first of the least schedules
+-- the first of the least schedules, in the order of lists of mode numbers
 pub record IsFirstLeast (i : Inputs) (s : List ℕ) : Type 0 where
   pub least : IsLeast i s
   pub first : (z : List ℕ) → IsFeasible i z → bill_of i z ≡ bill_of i s → IsNotAfter s z

@@ -1,5 +1,5 @@
 -- What goes through the meter in an interval. Net billing looks at each interval by itself, as SAM's net billing does:
--- what is taken in one interval is never set against what is sent out in another.
+-- the import of one interval is never set against the export of another.
 use Rattle.std.specs.Prelude.{ℕ, ℤ, pos, neg_ℤ, ◌+ℤ◌, ◌*ℤ◌, ◌≤ℤ◌, ◌&&◌, Option, Some, None, option_and_then, if◌then◌else◌, slice_get, slice_index_or, int_le, int_div}
 use Rattle.std.specs.Int.{int_max}
 use Rattle.d_model.specs.declared.mode.Mode.{Mode}
@@ -14,11 +14,11 @@ net_at i t = slice_index_or i.net t (pos 0)
 abbrev pub flow_of : Inputs → ℕ → Mode → ℤ
 flow_of i t mode = net_at i t +ℤ mode.grid
 
--- what is taken from the grid: the larger of 0 and the flow
+-- the import, from the grid: the larger of 0 and the flow
 abbrev pub import_of : ℤ → ℤ
 import_of flow = int_max (pos 0) flow
 
--- what is sent out: the larger of 0 and the flow turned round
+-- the export, into the grid: the larger of 0 and the flow turned round
 abbrev pub export_of : ℤ → ℤ
 export_of flow = int_max (pos 0) (neg_ℤ flow)
 
@@ -31,16 +31,16 @@ pub record IsPermitted (i : Inputs) (t : ℕ) (mode : Mode) : Type 0 where
   pub import : import_of (flow_of i t mode) ≤ℤ i.storage.max_import
   pub export : export_of (flow_of i t mode) ≤ℤ i.storage.max_export
 
--- what a flow takes, sends and draws
+-- import, export and power of a flow
 abbrev pub arc_of_flow : ℕ → ℤ → Arc
 arc_of_flow minutes flow = record { import = import_of flow; export = export_of flow; power = power_of minutes flow }
 
--- what a flow takes, sends and draws, where the battery's limits allow it
+-- the same, where the battery's limits allow it
 abbrev pub permitted_arc : Inputs → ℤ → Option Arc
 permitted_arc i flow =
     if int_le (import_of flow) i.storage.max_import && int_le (export_of flow) i.storage.max_export
     then Some (arc_of_flow i.minutes flow) else None
 
--- what an interval takes, sends and draws in the mode of this number; None where there is no such mode or it isn't permitted
+-- import, export and power of an interval in the mode of this number; None where there is no such mode or it isn't permitted
 abbrev pub arc_of : Inputs → ℕ → ℕ → Option Arc
 arc_of i t number = option_and_then (λ mode. permitted_arc i (flow_of i t mode)) (slice_get i.storage.modes number)

@@ -1,7 +1,7 @@
 -- What a plan is made for, as plain values.
-use Rattle.std.specs.Prelude.{◌≡◌, ◌⊎◌, ℕ, ℤ, List, ◌*◌, ◌^◌, ◌≤◌, length, All}
+use Rattle.std.specs.Prelude.{◌≡◌, ℕ, ℤ, List, ◌*◌, ◌^◌, ◌≤◌, length, All}
 use Rattle.jiff_core.specs.Calendar.{days_in_month}
-use Rattle.d_num.specs.Amount.{IsWithin, IsRate}
+use Rattle.d_num.specs.Amount.{IsWithin, IsRate, IsReadingLength}
 use Rattle.d_model.specs.Calendar.{IsMonth}
 use Rattle.d_model.specs.Storage.{Storage, IsStorage}
 
@@ -18,7 +18,7 @@ pub record Inputs : Type 0 where
 -- 10^22 units in size, and a valid battery (our own limits)
 pub record IsInRange (i : Inputs) : Type 0 where
   pub month : IsMonth i.year i.number
-  pub minutes : (i.minutes ≡ 15) ⊎ ((i.minutes ≡ 30) ⊎ (i.minutes ≡ 60))
+  pub minutes : IsReadingLength i.minutes
   pub whole : length i.net * i.minutes ≡ days_in_month i.year i.number * 1440
   pub some_interval : 1 ≤ length i.net
   pub few_intervals : length i.net ≤ 2976

@@ -1,11 +1,7 @@
 -- A month of net meter readings as plain values.
-use Rattle.std.specs.Prelude.{◌≡◌, ◌==◌, ◌||◌, ℕ, ℤ, List, ◌*◌, ◌^◌, length, All, IsTrue}
+use Rattle.std.specs.Prelude.{◌≡◌, ℕ, ℤ, List, ◌*◌, ◌^◌, length, All}
 use Rattle.jiff_core.specs.Calendar.{days_in_month}
-use Rattle.d_num.specs.Amount.{IsWithin}
-
--- readings are made every 15, 30 or 60 minutes (our own choice)
-abbrev pub IsReadingLength : ℕ → Type 0
-IsReadingLength minutes = IsTrue ((minutes == 15) || (minutes == 30) || (minutes == 60))
+use Rattle.d_num.specs.Amount.{IsWithin, IsReadingLength}
 
 -- the readings cover the month from its first minute to its last, and each is at most 10^9 Wh in size
 pub record IsReadings (year : ℤ) (number minutes : ℕ) (net : List ℤ) : Type 0 where

@@ -11,11 +11,11 @@ pub record Tallied : Type 0 where
   pub credit : ℤ
   pub peaks : List ℤ
 
--- what interval t takes from the grid in the mode of this number; 0 where there is no such mode
+-- the import of interval t in the mode of this number; 0 where there is no such mode
 abbrev pub import_with : Inputs → ℕ → ℕ → ℤ
 import_with i t number = unwrap_or (option_map (λ mode. import_of (flow_of i t mode)) (slice_get i.storage.modes number)) (pos 0)
 
--- what the whole month takes from the grid: the sum of the imports of its intervals
+-- the import of the whole month: the sum of the imports of its intervals
 abbrev pub total_import : Inputs → List ℕ → ℤ
 total_import i s = sum_of_first (length i.net) (λ t. import_with i t (slice_index s t))
 
@@ -29,7 +29,7 @@ pub record IsTallyOfSome (i : Inputs) (tally : Tallied) : Type 0 where
   pub feasible : IsFeasible i schedule
   pub counted : tally ≡ tally_of i schedule
 
--- what the readings alone take from the grid, where no battery adds to them: the sum of the imports of the month's intervals
+-- the import of the readings alone, where no battery adds to them: the sum of the imports of the month's intervals
 abbrev pub metered_import : Inputs → ℤ
 metered_import i = sum_of_first (length i.net) (λ t. import_of (net_at i t))
 

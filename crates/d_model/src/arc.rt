@@ -1,17 +1,21 @@
-//! What an interval takes and sends in a mode, and where a schedule breaks a rule.
+//! Import, export and power of an interval in a mode, and where a schedule breaks a rule.
 
 use d_num::{Watt, Wh};
 
-/// What an interval takes from the grid, sends out and draws in a mode.
+/// Import, export and power of an interval in a mode.
 #[derive(Clone, Copy, PartialEq, Eq, Debug)]
 pub struct Arc {
+    /// The energy from the grid, from 0 to 2 * 10^9 Wh.
     pub import: Wh,
+    /// The energy into the grid, from 0 to 2 * 10^9 Wh.
     pub export: Wh,
+    /// The import's power, evenly over the interval.
     pub power: Watt,
 }
 
 /// The interval, counted from 0, at which a schedule breaks a rule; the number of intervals where only the end level is missed.
 #[derive(Clone, Copy, PartialEq, Eq, Debug)]
 pub struct At {
+    /// From 0 to the number of intervals.
     pub interval: u32,
 }

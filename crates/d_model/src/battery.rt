@@ -2,20 +2,26 @@
 
 ghost use Rattle.d_model.specs.Storage.{IsStorage};
 
-use crate::mode::ModeList;
+use crate::mode::{ModeList, copied_modes};
 use d_num::{NoMemory, Wh};
 use std::alloc::Global;
 
-/// A battery: its levels from `floor` to `capacity`, the level at the month's start and the least one at its end, what it may take and
-/// send in an interval, and its modes.
+/// A battery: its levels, the limits of import and export in an interval, and its modes.
 #[derive(Drop)]
 pub struct Battery {
+    /// The highest level, from 0 to 255.
     pub capacity: u8,
+    /// The lowest level, at most `start`.
     pub floor: u8,
+    /// The level at the month's start, from `floor` to `capacity`.
     pub start: u8,
+    /// The least level at the month's end, at most `capacity`.
     pub end: u8,
+    /// The greatest import of an interval, from 0 to 10^10 Wh.
     pub max_import: Wh,
+    /// The greatest export of an interval, from 0 to 10^10 Wh.
     pub max_export: Wh,
+    /// What it can do in an interval: 1 to 64 modes of different names.
     pub modes: ModeList,
     pub ghost in_range: { IsStorage (record { floor = floor; capacity = capacity; start = start; end = end; max_import = max_import; max_export = max_export; modes = modes }) },
 }
@@ -28,7 +34,7 @@ impl Battery {
     pub fn copied(&self, alloc: Global) -> Result<Battery, NoMemory>
         ensures { IfOk result (λ b. storage_of b ≡ storage_of self.now) }
     {
-        let modes = self.modes.copied(alloc)?;
+        let modes = copied_modes(alloc, &self.modes)?;
         Ok(Battery {
             capacity: self.capacity,
             floor: self.floor,

@@ -12,22 +12,18 @@ mod meter;
 mod mode;
 mod month;
 mod name;
-mod net;
 mod problem;
 mod schedule;
 mod start;
 mod tally;
-#[cfg(test)]
-mod tests;
 
 pub use arc::{Arc, At};
 pub use battery::Battery;
 pub use law::reads_once;
-pub use meter::Meter;
+pub use meter::{Meter, NetList};
 pub use mode::{Mode, ModeList};
 pub use month::Month;
 pub use name::Name;
-pub use net::NetList;
 pub use problem::Problem;
 pub use schedule::{ScheduleFault, read_schedule};
 pub use start::is_start;

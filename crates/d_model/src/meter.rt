@@ -3,15 +3,21 @@
 ghost use Rattle.d_model.specs.Readings.{IsReadings};
 
 use crate::month::Month;
-use crate::net::NetList;
-use d_num::NoMemory;
+use d_list::Items;
+use d_num::{NoMemory, Wh};
 use std::alloc::Global;
+
+/// Net readings in order, one an interval.
+pub type NetList = Items<Wh>;
 
 /// The net readings of a whole month, one every so many minutes.
 #[derive(Drop)]
 pub struct Meter {
+    /// The month.
     pub month: Month,
+    /// The length of an interval: 15, 30 or 60 minutes.
     pub minutes: u8,
+    /// The net reading of each interval, at most 10^9 Wh in size; below 0 where more was made than used.
     pub net: NetList,
     pub ghost complete: { IsReadings month.year month.number minutes net },
 }

@@ -1,20 +1,25 @@
 //! What a battery can do in an interval.
 
-ghost use Rattle.std.specs.Prelude.{◌≡◌, ◌==◌, [], ◌∷◌, ◌++◌, length, IfOk, OnOk, OnErr};
+ghost use Rattle.std.specs.Prelude.{◌≡◌, IfOk};
 
 use crate::name::Name;
+use d_list::Items;
 use d_num::{NoMemory, Wh};
 use std::alloc::Global;
-use std::marker::Model;
 
 /// A mode: by how many levels it changes the battery, what it adds to the net reading of an interval, and from which to which level
 /// it may begin.
 #[derive(Drop)]
 pub struct Mode {
+    /// Its name, which no other mode of the battery has.
     pub name: Name,
+    /// By how many levels it changes the battery, from -255 to 255.
     pub change: i16,
+    /// What it adds to the net reading of an interval, at most 10^9 Wh in size.
     pub grid: Wh,
+    /// The lowest level at which it may begin.
     pub low: u8,
+    /// The highest level at which it may begin, at least the lowest.
     pub high: u8,
 }
 
@@ -33,81 +38,16 @@ impl Mode {
     }
 }
 
-/// Modes in order, counted from 0. A contract sees them as a list.
-#[derive(Drop)]
-pub struct ModeList(Vec<Mode>);
+/// Modes in order, counted from 0.
+pub type ModeList = Items<Mode>;
 
-impl Model for ModeList {
-    ghost use Rattle.std.specs.Prelude.{List};
-    ghost use Rattle.d_model.specs.declared.mode.Mode.{Mode};
-
-    ghost Value = { List Mode };
-
-    ghost view = { λ a. a.0.items };
-}
-
-impl ModeList {
-    /// No mode.
-    pub fn new(alloc: Global) -> ModeList
-        ensures { result ≡ [] }
-    {
-        ModeList(Vec::new(alloc))
+/// The same modes once more, in memory of their own.
+pub(crate) fn copied_modes(alloc: Global, modes: &ModeList) -> Result<ModeList, NoMemory>
+    ensures { IfOk result (λ copy. copy ≡ modes.now) }
+{
+    let mut copy = Items::new(alloc);
+    for mode in modes.as_slice() {
+        copy.add(mode.copied())?;
     }
-
-    /// These modes. It takes no memory.
-    pub fn from_vec(modes: Vec<Mode>) -> ModeList
-        ensures { result ≡ modes.items }
-    {
-        ModeList(modes)
-    }
-
-    /// The modes given back. It takes no memory.
-    pub fn into_vec(self) -> Vec<Mode>
-        ensures { result.items ≡ self }
-    {
-        self.0
-    }
-
-    /// Adds a mode at the end. Without memory nothing changes.
-    pub fn add(&mut self, mode: Mode) -> Result<(), NoMemory>
-        ensures ok { OnOk result (self.new ≡ self.old ++ mode ∷ []) }
-        ensures err { OnErr result (self.new ≡ self.old) }
-    {
-        if self.0.push(mode).is_err() {
-            return Err(NoMemory);
-        }
-        Ok(())
-    }
-
-    /// How many there are.
-    pub fn len(&self) -> usize
-        ensures { result ≡ length self.now }
-    {
-        self.0.len()
-    }
-
-    /// Whether there is none.
-    pub fn is_empty(&self) -> bool
-        ensures { result ≡ (length self.now == 0) }
-    {
-        self.0.is_empty()
-    }
-
-    /// All of them.
-    pub fn as_slice(&self) -> &[Mode]
-        ensures { result.now ≡ self.now }
-    {
-        self.0.as_slice()
-    }
-
-    /// The same modes once more, in memory of their own.
-    pub fn copied(&self, alloc: Global) -> Result<ModeList, NoMemory>
-        ensures { IfOk result (λ modes. modes ≡ self.now) }
-    {
-        let mut modes = ModeList::new(alloc);
-        for mode in self.as_slice() {
-            modes.add(mode.copied())?;
-        }
-        Ok(modes)
-    }
+    Ok(copy)
 }

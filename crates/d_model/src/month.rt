@@ -9,7 +9,9 @@ use jiff::civil::date;
 /// A month of the years 1 to 9999.
 #[derive(Clone, Copy, PartialEq, Eq, Debug)]
 pub struct Month {
+    /// From 1 to 9999.
     pub year: i16,
+    /// From 1 for January to 12.
     pub number: u8,
     pub ghost in_range: { IsMonth year number },
 }

@@ -99,7 +99,7 @@ impl Problem {
         &self.battery
     }
 
-    /// What an interval takes, sends and draws in a mode, or None exactly where the battery's limits don't allow it.
+    /// Import, export and power of an interval in a mode, or None exactly where the battery's limits don't allow it.
     pub fn arc(&self, t: u32, mode: u8) -> Option<Arc>
         requires interval { t < length (inputs_of self.now).net }
         requires mode { mode < length (inputs_of self.now).storage.modes }
@@ -117,13 +117,13 @@ impl Problem {
         &self.battery.modes.as_slice()[number as usize]
     }
 
-    /// What a flow takes, sends and draws, or None where the battery's limits don't allow it.
+    /// Import, export and power of a flow, or None where the battery's limits don't allow it.
     fn permitted(&self, flow: i64) -> Option<Arc>
         requires { IsWithin (2 * 10 ^ 9) flow }
         ensures { result ≡ permitted_arc (inputs_of self.now) flow }
     {
-        let import = taken(flow);
-        let export = sent(flow);
+        let import = imported(flow);
+        let export = exported(flow);
         if !is_within(import, self.battery.max_import)
             || !is_within(export, self.battery.max_export)
         {
@@ -205,7 +205,7 @@ impl Problem {
         Some(after as u8)
     }
 
-    /// Writes the tally of the readings alone, as if there were no battery: the sum of what each interval takes, in Wh. No rule of the
+    /// Writes the tally of the readings alone, as if there were no battery: the sum of the imports of its intervals, in Wh. No rule of the
     /// battery is tested, and no memory is taken.
     pub fn metered(&self, tally: &mut Tally)
         ensures value { tally.new ≡ metered_tally (inputs_of self.now) }
@@ -213,7 +213,7 @@ impl Problem {
     {
         let mut total = 0;
         for t in 0..self.intervals() {
-            total += taken(self.net(t).value()).value();
+            total += imported(self.net(t).value()).value();
         }
         *tally = Tally::of_import(Wh::new(total).unwrap());
     }
@@ -239,15 +239,15 @@ impl Problem {
     }
 }
 
-/// What a kept interval leaves and takes.
+/// The level after an interval, and its import, export and power.
 #[derive(Clone, Copy)]
 struct Step {
     level: u8,
     arc: Arc,
 }
 
-/// The part of a flow that is taken: the larger of 0 and the flow.
-fn taken(flow: i64) -> Wh
+/// The import of a flow: the larger of 0 and the flow.
+fn imported(flow: i64) -> Wh
     requires { IsWithin (2 * 10 ^ 9) flow }
     ensures value { result ≡ import_of flow }
     ensures range { IsUpTo (2 * 10 ^ 9) result }
@@ -255,8 +255,8 @@ fn taken(flow: i64) -> Wh
     Wh::new(flow.max(0)).unwrap()
 }
 
-/// The part of a flow that is sent out: the larger of 0 and the flow turned round.
-fn sent(flow: i64) -> Wh
+/// The export of a flow: the larger of 0 and the flow turned round.
+fn exported(flow: i64) -> Wh
     requires { IsWithin (2 * 10 ^ 9) flow }
     ensures { result ≡ export_of flow }
 {

@@ -2,6 +2,7 @@
 
 ghost use Rattle.std.specs.Prelude.{◌≡◌, ◌↔◌, ◌⊎◌, ℕ, ◌+◌, ◌*◌, ◌^◌, ◌<◌, ◌≤◌, ◌++◌, ◌/◌, ◌%◌, [], ◌∷◌, List, codes, IsTrue, IfNone, IfSome};
 ghost use Rattle.jiff_core.specs.Calendar.{days_in_month};
+ghost use Rattle.d_num.specs.Amount.{IsReadingLength};
 ghost use Rattle.d_text.specs.Text.{zero_padded};
 ghost use Rattle.d_model.specs.Starts.{date_text, time_text, start_day, start_minute, IsMoment, IsStartText};
 
@@ -10,7 +11,7 @@ use crate::month::Month;
 /// Whether the cell is the start of that interval of the month, counted from 0: its date as `YYYY-MM-DD`, T or one space, its time as
 /// `HH:MM`, and then nothing or `:00`. It takes no memory.
 pub fn is_start(cell: &[u8], month: Month, minutes: u8, index: u32) -> bool
-    requires minutes { (minutes ≡ 15) ⊎ ((minutes ≡ 30) ⊎ (minutes ≡ 60)) }
+    requires minutes { IsReadingLength minutes }
     requires interval { index * minutes < days_in_month month.year month.number * 1440 }
     ensures { IsTrue result ↔ IsStartText cell.now month.year month.number minutes index }
 {

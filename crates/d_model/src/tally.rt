@@ -9,8 +9,11 @@ use std::marker::Model;
 /// contract sees it as these lists.
 #[derive(Drop)]
 pub struct Tally {
+    /// The import of each energy period, by its number.
     pub totals: [Wh; 36],
+    /// The worth of the export.
     pub credit: Money,
+    /// The greatest power of each demand period, by its number, and last that of the whole month.
     pub peaks: [Watt; 37],
 }
 

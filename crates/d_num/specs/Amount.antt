@@ -1,5 +1,5 @@
 -- The ranges of money, rates, energy and power. All are our own limits: within them no bill of a month leaves 128 bits.
-use Rattle.std.specs.Prelude.{ℕ, ℤ, pos, neg_ℤ, ◌≤ℤ◌, ◌*ℤ◌, ◌≡◌, ◌⊎◌, ◌*◌, ◌^◌}
+use Rattle.std.specs.Prelude.{◌==◌, ◌||◌, IsTrue, ℕ, ℤ, pos, neg_ℤ, ◌≤ℤ◌, ◌*ℤ◌, ◌≡◌, ◌⊎◌, ◌*◌, ◌^◌}
 
 -- a whole number of at most this size, whatever its sign
 abbrev pub IsWithin : ℕ → ℤ → Type 0
@@ -29,6 +29,10 @@ IsWatt z = IsUpTo (10 ^ 13) z
 abbrev pub IsIntervalLength : ℕ → Type 0
 IsIntervalLength minutes = ((minutes ≡ 5) ⊎ (minutes ≡ 15)) ⊎ ((minutes ≡ 30) ⊎ (minutes ≡ 60))
 
--- this much energy taken evenly over that many minutes is this power
+-- readings are made every 15, 30 or 60 minutes (our own choice)
+abbrev pub IsReadingLength : ℕ → Type 0
+IsReadingLength minutes = IsTrue ((minutes == 15) || (minutes == 30) || (minutes == 60))
+
+-- this much energy spread evenly over that many minutes is this power
 abbrev pub IsPowerOf : ℤ → ℕ → ℤ → Type 0
 IsPowerOf energy minutes power = power *ℤ pos minutes ≡ energy *ℤ pos 60

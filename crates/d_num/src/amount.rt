@@ -215,7 +215,7 @@ impl Watt {
         self.0
     }
 
-    /// The power of an import that was taken evenly over an interval of so many minutes: the import in Wh times 60 divided by the
+    /// The power of an import that is spread evenly over an interval of so many minutes: the import in Wh times 60 divided by the
     /// minutes, which is whole.
     pub fn of(import: Wh, minutes: u8) -> Watt
         requires import { IsUpTo (2 * 10 ^ 9) import }

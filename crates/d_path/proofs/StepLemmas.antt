@@ -7,7 +7,8 @@ use Rattle.d_num.specs.declared.pot.Pot.TheVariants.{NoWay}
 use Rattle.d_num.specs.Pot.{AtMost, joined}
 use Rattle.d_path.specs.declared.ways.Move.{Move}
 use Rattle.d_path.specs.Arcs.{Arcs, next_level, level_after, arc_cost, intervals_of, along, way_cost, IsSound}
-use Rattle.d_path.specs.Cheapest.{IsCheapest, IsNotAfter, IsFirstCheapest, entry, HasCheapest}
+use Rattle.d_list.specs.Order.{IsNotAfter}
+use Rattle.d_path.specs.Cheapest.{IsCheapest, IsFirstCheapest, entry, HasCheapest}
 use Rattle.d_path.specs.Best.{IsFirstPlace, IsFirstBest, IsLeastOf, IsLesser, AreCostsAt, cost_by}
 use Rattle.d_path.proofs.CostLemmas.{AtMost-refl, AtMost-trans, AtMost-antisym, AtMost-other, AtMost-NoWay, AtMost-along, joined-NoWay, joined_cancel, along-NoWay}
 use Rattle.d_path.proofs.WayLemmas.{level_after_in, level_after_past, early, arc_past, cheapest_same, first_is_cheapest}

@@ -4,12 +4,13 @@ use Rattle.std.specs.List.{All}
 use Rattle.std.proofs.lemmas.List.{get_or_past}
 use Rattle.std.proofs.lemmas.Int.{ints}
 use Rattle.std.proofs.lemmas.Bool.Decides.{nat_tests}
+use Rattle.d_list.proofs.OrderLaws.{IsNotAfter-antisym}
 use Rattle.d_num.specs.declared.pot.Pot.{Pot}
 use Rattle.d_num.specs.declared.pot.Pot.TheVariants.{To, NoWay}
 use Rattle.d_num.specs.Pot.{AtMost, IsPotWithin}
 use Rattle.d_path.specs.declared.ways.Move.{Move}
 use Rattle.d_path.specs.Arcs.{Arcs, next_level, level_after, arc_cost, intervals_of, way_cost, IsSound}
-use Rattle.d_path.specs.Cheapest.{IsCheapest, IsNotAfter, IsFirstCheapest}
+use Rattle.d_path.specs.Cheapest.{IsCheapest, IsFirstCheapest}
 use Rattle.d_path.proofs.CostLemmas.{AtMost-antisym, AtMost-NoWay, along_there, along_within, within_more, NoWay?}
 
 within_at : (costs : List Pot) (i : ℕ) → All (IsPotWithin (10 ^ 32)) costs → IsPotWithin (10 ^ 32) (slice_index_or costs i NoWay)
@@ -102,23 +103,11 @@ cheapest_same a t level p q h k = AtMost-antisym p q (below p q h k) (below q p 
       | inr way ↦ let P : Pot → Type 0 = λ r. AtMost p r in subst P way.1 (h.least way.0)
     ]
 
-not_after_same : (s z : List ℕ) → IsNotAfter s z → IsNotAfter z s → s ≡ z
-not_after_same [] [] h k = refl
-not_after_same [] (y ∷ ys) h k = absurd k
-not_after_same (x ∷ xs) [] h k = absurd h
-not_after_same (x ∷ xs) (y ∷ ys) h k = elim h [
-  | inl less ↦ elim k [ inl more ↦ absurd (omega arith) | inr same ↦ absurd (omega arith) ]
-  | inr same ↦ elim k [
-    | inl more ↦ absurd (omega arith)
-    | inr again ↦ let rest : xs ≡ ys = not_after_same xs ys same.1 again.1 in cc
-  ]
-]
-
 -- two first cheapest ways are the same
 pub first_cheapest_same : (a : Arcs) (t level : ℕ) (s z : List ℕ) → IsFirstCheapest a t level s → IsFirstCheapest a t level z → s ≡ z
 first_cheapest_same a t level s z h k =
     let same : way_cost a t level s ≡ way_cost a t level z = AtMost-antisym (way_cost a t level s) (way_cost a t level z) (h.least z) (k.least s) in
-    not_after_same s z (h.first z (sym same)) (k.first s same)
+    IsNotAfter-antisym s z (h.first z (sym same)) (k.first s same)
 
 -- a first cheapest way has the least cost
 pub first_is_cheapest : (a : Arcs) (t level : ℕ) (s : List ℕ) → IsFirstCheapest a t level s → IsCheapest a t level (way_cost a t level s)

@@ -1,6 +1,7 @@
 -- The least cost over all ways, the first way of that cost, and rows of least costs. All of it is our own rule.
-use Rattle.std.specs.Prelude.{ℕ, ◌+◌, ◌-◌, ◌≡◌, ◌≢◌, ◌≤◌, ◌<◌, ◌⊎◌, ⊤, List, [], ◌∷◌, length, slice_index_or}
+use Rattle.std.specs.Prelude.{ℕ, ◌+◌, ◌-◌, ◌≡◌, ◌≢◌, ◌≤◌, ◌⊎◌, List, [], length, slice_index_or}
 use Rattle.std.specs.List.{All}
+use Rattle.d_list.specs.Order.{IsNotAfter}
 use Rattle.d_num.specs.declared.pot.Pot.{Pot}
 use Rattle.d_num.specs.declared.pot.Pot.TheVariants.{NoWay}
 use Rattle.d_num.specs.Pot.{AtMost}
@@ -14,12 +15,6 @@ pub record IsCheapest (a : Arcs) (t level : ℕ) (p : Pot) : Type 0 where
 -- some way leads on from this level at interval t
 abbrev pub HasWay : Arcs → ℕ → ℕ → Type 0
 HasWay a t level = (ms : List ℕ) × (way_cost a t level ms ≢ NoWay)
-
--- a list of numbers is the other one or comes before it in a dictionary's order
-abbrev pub IsNotAfter : List ℕ → List ℕ → Type 0
-IsNotAfter [] ys = ⊤
-IsNotAfter (x ∷ xs) [] = ⊥
-IsNotAfter (x ∷ xs) (y ∷ ys) = (x < y) ⊎ ((x ≡ y) × IsNotAfter xs ys)
 
 -- s is a way from this level at interval t, none costs less, and it is the first of those that cost as much
 pub record IsFirstCheapest (a : Arcs) (t level : ℕ) (s : List ℕ) : Type 0 where

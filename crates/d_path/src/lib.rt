@@ -16,5 +16,3 @@ pub use layers::Layers;
 pub use least::backward;
 pub use ways::{Move, Ways};
 
-#[cfg(test)]
-mod tests;

@@ -1,10 +1,8 @@
 -- The periods of a valid tariff's hours.
-use Rattle.std.proofs.Common.{◌≡◌, ℕ, ◌<◌, ◌≤◌, ◌-◌, ℤ, true, false, IsSome, cond, Option, List, [], replicate, refl, arith}
-use Rattle.std.proofs.lemmas.List.{get_or-replicate}
+use Rattle.std.proofs.Common.{ℕ, ◌<◌, ◌≤◌, ℤ, true, false, IsSome, cond}
 use Rattle.d_cal.specs.Calendar.{is_weekend}
 use Rattle.d_cal.specs.Schedules.{period_of, entry_at}
-use Rattle.d_tariff.specs.declared.period.Period.{Period}
-use Rattle.d_tariff.specs.Terms.{Terms, IsTariff, HasEach, period_at}
+use Rattle.d_tariff.specs.Terms.{Terms, IsTariff, period_at}
 
 -- each hour of each day has an energy period that is there
 pub hour_there : {terms : Terms} → IsTariff terms → (year : ℤ) (month day hour : ℕ) → 1 ≤ month → month ≤ 12 → hour < 24
@@ -14,12 +12,3 @@ hour_there {terms} valid year month day hour first last within =
       | true ↦ valid.weekend month hour first last within
       | false ↦ valid.weekday month hour first last within
     ]
-
--- a grid with one period for all hours
-pub one_period : (periods : List (Option Period)) (grid : List (List ℕ)) (number : ℕ) → grid ≡ replicate 12 (replicate 24 number)
-    → IsSome (period_at periods number) → HasEach periods grid
-one_period periods grid number same there month hour first last within =
-    let row = get_or-replicate 12 (month - 1) (replicate 24 number) [] (omega arith) in
-    let cell = get_or-replicate 24 hour number 0 within in
-    let entry : entry_at grid month hour ≡ number = rw (same, row, cell) refl in
-    rw entry there

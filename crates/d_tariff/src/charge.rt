@@ -3,16 +3,18 @@
 use d_num::Money;
 
 /// How often a charge is made.
-#[derive(Clone, Copy, PartialEq, Eq, Debug)]
+#[derive(Clone, Copy)]
 pub enum ChargeUnit {
     Day,
     Month,
     Year,
 }
 
-/// An amount, in units of 10^-21 USD, that is charged once every day, month or year.
-#[derive(Clone, Copy, PartialEq, Eq, Debug)]
+/// An amount that is charged once every day, month or year.
+#[derive(Clone, Copy)]
 pub struct Charge {
+    /// The amount, in units of 10^-21 USD, at most 10^9 USD in size in every tariff.
     pub amount: Money,
+    /// How often it is charged.
     pub unit: ChargeUnit,
 }

@@ -5,15 +5,9 @@
 #![tactic(auto)]
 
 mod charge;
-mod columns;
 mod period;
 mod tariff;
-#[cfg(test)]
-mod tests;
-mod tier_lists;
 
 pub use charge::{Charge, ChargeUnit};
-pub use columns::Columns;
-pub use period::{Period, Periods};
+pub use period::{Columns, Period, Periods, TierLists};
 pub use tariff::Tariff;
-pub use tier_lists::TierLists;

@@ -3,9 +3,7 @@
 ghost use Rattle.d_tariff.specs.Terms.{IsTariff};
 
 use crate::charge::Charge;
-use crate::columns::Columns;
-use crate::period::{Period, Periods};
-use crate::tier_lists::TierLists;
+use crate::period::{Columns, Period, Periods, TierLists};
 use d_cal::{Month, Schedule};
 use d_tier::Tiers;
 
@@ -24,11 +22,12 @@ pub struct Tariff {
     pub demand_hours: Schedule,
     /// The flat demand period of each month, January first.
     pub flat_months: [u8; 12],
-    /// The fraction of each month's highest demand that later months are billed for at least, January first, in units of 10^-20.
+    /// Each month's own fraction of an earlier peak that is handed in, January first, in units of 10^-20: the month is billed for at least
+    /// that much flat demand.
     pub ratchet: [u128; 12],
-    /// What is charged whatever is used.
+    /// What is charged whatever is used, by day, month or year.
     pub fixed: Charge,
-    /// What a bill is at least.
+    /// What a bill is at least, by day or month; None where there is no minimum.
     pub minimum: Option<Charge>,
     /// Whether energy is settled hour by hour.
     pub hourly: bool,
@@ -65,7 +64,7 @@ impl Tariff {
         ensures prices { IfSome result (λ period. HasEnergyPrices period.now) }
         ensures valid { IsTariff (terms_of self.now) }
     {
-        self.energy.get(number)
+        self.energy.entry(number)
     }
 
     /// The energy period in an hour, from 0, of that day of the month, from 1.
@@ -87,7 +86,7 @@ impl Tariff {
         ensures value { option_map (λ tiers. tiers.now) result ≡ tiers_at (terms_of self.now).demand number }
         ensures prices { IfSome result (λ tiers. HasDemandPrices tiers.now) }
     {
-        self.demand.get(number)
+        self.demand.entry(number)
     }
 
     /// The tiers of the flat demand period of a month, or None exactly where it has none.
@@ -95,6 +94,6 @@ impl Tariff {
         ensures value { let terms = terms_of self.now in option_map (λ tiers. tiers.now) result ≡ tiers_at terms.flat (slice_index terms.flat_months (month.number - 1)) }
         ensures prices { IfSome result (λ tiers. HasDemandPrices tiers.now) }
     {
-        self.flat.get(self.flat_months[(month.number - 1) as usize])
+        self.flat.entry(self.flat_months[(month.number - 1) as usize])
     }
 }

@@ -14,8 +14,6 @@ mod law;
 mod row;
 mod scan;
 mod size;
-#[cfg(test)]
-mod tests;
 mod text;
 
 pub use decimal::{DecimalFault, read_decimal, read_floor};

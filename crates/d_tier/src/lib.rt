@@ -4,8 +4,6 @@
 //! nothing here takes memory.
 #![tactic(auto)]
 
-#[cfg(test)]
-mod tests;
 mod tier;
 mod tiers;
 

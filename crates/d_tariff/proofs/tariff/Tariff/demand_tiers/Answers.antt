@@ -4,4 +4,4 @@ use Rattle.d_tariff.proofs.tariff.Tariff.demand_tiers.Goals as goal
 
 pub returns-clause-prices : goal.returns-clause-prices
 returns-clause-prices c =
-    found_keeps HasDemandPrices c.get.result _ c.get.ensures (entry_keeps HasDemandPrices c.args.self.now.demand _ c.args.self.now.valid.demand_prices)
+    found_keeps HasDemandPrices c.entry.result _ c.entry.ensures (entry_keeps HasDemandPrices c.args.self.now.demand _ c.args.self.now.valid.demand_prices)
