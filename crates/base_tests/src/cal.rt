@@ -1,6 +1,6 @@
 //! Months, weekends and schedules against calendars made by others.
 
-use crate::{Month, Schedule};
+use d_cal::{Month, Schedule};
 use std::process::Abort;
 
 #[test]
@@ -37,42 +37,22 @@ fn other_months_are_none(rt: HostRuntime) {
 
 #[test]
 fn weekends_are_saturdays_and_sundays(rt: HostRuntime) {
-    let saturdays_and_sundays = [
-        (1, 1, 6),
-        (1582, 10, 16),
-        (1666, 9, 12),
-        (1755, 11, 1),
-        (1815, 6, 18),
-        (1900, 3, 3),
-        (1969, 7, 20),
-        (2000, 1, 1),
-        (2024, 3, 2),
-        (2024, 3, 3),
-        (2099, 12, 26),
-        (2400, 2, 27),
-        (9999, 12, 26),
-    ];
-    for (year, number, day) in saturdays_and_sundays {
-        let weekend = is_weekend(&rt, year, number, day);
-        assert!(rt; weekend, "{year}-{number}-{day}");
-    }
-    let weekdays = [
-        (1, 1, 1),
-        (1582, 10, 15),
-        (1776, 7, 4),
-        (1900, 1, 1),
-        (1963, 11, 22),
-        (1999, 12, 31),
-        (2000, 2, 29),
-        (2024, 2, 29),
-        (2024, 3, 1),
-        (2024, 3, 4),
-        (2100, 3, 1),
-        (9999, 12, 31),
-    ];
-    for (year, number, day) in weekdays {
-        let weekend = is_weekend(&rt, year, number, day);
-        assert!(rt; !weekend, "{year}-{number}-{day}");
+    let days =
+        "yes 1-1-6|yes 1582-10-16|yes 1666-9-12|yes 1755-11-1|yes 1815-6-18|yes 1900-3-3|yes 1969-7-20|yes 2000-1-1|yes 2024-3-2|\
+         yes 2024-3-3|yes 2099-12-26|yes 2400-2-27|yes 9999-12-26|no 1-1-1|no 1582-10-15|no 1776-7-4|no 1900-1-1|no 1963-11-22|\
+         no 1999-12-31|no 2000-2-29|no 2024-2-29|no 2024-3-1|no 2024-3-4|no 2100-3-1|no 9999-12-31";
+    for case in days.split('|') {
+        let (answer, date) = case.split_once(' ').expect(&rt, "an answer and a date");
+        let (year, rest) = date.split_once('-').expect(&rt, "a year");
+        let (number, day) = rest.split_once('-').expect(&rt, "a month and a day");
+        let year = year.parse::<i16>().expect(&rt, "a year");
+        let number = number.parse::<u8>().expect(&rt, "a month");
+        let day = day.parse::<u8>().expect(&rt, "a day");
+        assert_eq!(rt;
+            is_weekend(&rt, year, number, day),
+            answer == "yes",
+            "at {case}"
+        );
     }
 }
 

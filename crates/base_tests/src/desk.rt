@@ -1,4 +1,6 @@
-use crate::{
+//! The desks in memory: files that are loaded and saved, printed text, openings, and calls that fail where they are told to.
+
+use d_desk::{
     Desk, DeskCall, DeskFault, Direction, LoadFault, MemoryDesk, SureDesk, load_file, print_all,
     save_all,
 };

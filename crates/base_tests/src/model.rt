@@ -3,9 +3,9 @@
 ghost use Rattle.std.specs.Prelude.{◌≡◌, ◌^◌, length, IfOk};
 ghost use Rattle.d_num.specs.Amount.{IsWithin};
 
-use crate::{
-    Arc, At, Battery, Meter, Mode, ModeList, Month, Name, NetList, Problem, ScheduleFault, Tally,
-    is_start, read_schedule,
+use d_list::Items;
+use d_model::{
+    Arc, Battery, Meter, Mode, Month, Name, Problem, ScheduleFault, Tally, is_start, read_schedule,
 };
 use d_num::{NoMemory, Rate, Watt, Wh};
 use d_table::read_table;
@@ -24,7 +24,7 @@ fn reading(first: i16, hour: u32) -> Wh
 fn february(alloc: Global, first: i16) -> Result<Meter, NoMemory>
     ensures { IfOk result (λ m. length m.net ≡ 672) }
 {
-    let mut net = NetList::new(alloc);
+    let mut net = Items::new(alloc);
     for hour in 0..672 {
         net.add(reading(first, hour))?;
     }
@@ -61,7 +61,7 @@ fn battery(
 ) -> Result<Battery, NoMemory> {
     assert!(rt; start <= capacity);
     assert!(rt; end <= capacity);
-    let mut modes = ModeList::new(alloc);
+    let mut modes = Items::new(alloc);
     modes.add(mode(Name::new(b"idle").unwrap(), 0, Wh::new(0).unwrap()))?;
     modes.add(mode(
         Name::new(b"discharge").unwrap(),
@@ -84,13 +84,13 @@ fn bills_a_february(rt: HostRuntime) -> Result<(), Fail> {
     let alloc = rt.alloc();
     let price = Rate::new(100_000_000_000_000_000).unwrap();
     let meter = february(alloc, 1000)?;
-    let rows: [(u8, u8, u8, u8, Result<i128, At>); 4] = [
-        (0, 0, 0, 0, Ok(67_200_000_000_000_000_000_000)),
-        (4, 0, 4, 0, Err(At { interval: 672 })),
-        (4, 0, 0, 1, Err(At { interval: 0 })),
-        (4, 1, 0, 1, Ok(67_100_000_000_000_000_000_000)),
+    let rows: [(u8, u8, u8, u8, Option<i128>, u32); 4] = [
+        (0, 0, 0, 0, Some(67_200_000_000_000_000_000_000), 0),
+        (4, 0, 4, 0, None, 672),
+        (4, 0, 0, 1, None, 0),
+        (4, 1, 0, 1, Some(67_100_000_000_000_000_000_000), 0),
     ];
-    for (capacity, start, end, first, want) in rows {
+    for (capacity, start, end, first, bill, interval) in rows {
         let battery = battery(&rt, alloc, capacity, start, end)?;
         let problem = Problem::plain(alloc, price, &meter, &battery)?;
         let mut schedule = [0; 672];
@@ -98,10 +98,10 @@ fn bills_a_february(rt: HostRuntime) -> Result<(), Fail> {
         let mut tally = Tally::new();
         match problem.walk(&schedule, &mut tally) {
             Ok(()) => {
-                assert_eq!(rt; Ok(problem.bill(&tally).units()), want);
-                assert_eq!(rt; Ok(problem.sum(&tally).units()), want);
+                assert_eq!(rt; Some(problem.bill(&tally).units()), bill);
+                assert_eq!(rt; Some(problem.sum(&tally).units()), bill);
             }
-            Err(at) => assert_eq!(rt; Err(at), want),
+            Err(at) => assert_eq!(rt; (at.interval, None), (interval, bill)),
         }
     }
     Ok(())
@@ -139,7 +139,7 @@ fn shows_what_it_was_made_of(rt: HostRuntime) -> Result<(), Fail> {
         ),
         (672, 60, 7)
     );
-    assert_eq!(rt; Some(problem.month()), Month::new(2025, 2));
+    assert!(rt; Some(problem.month()) == Month::new(2025, 2));
     assert_eq!(rt; problem.month().days(), 28);
     assert_eq!(rt; problem.net(0).value(), 1000);
 
@@ -151,7 +151,7 @@ fn shows_what_it_was_made_of(rt: HostRuntime) -> Result<(), Fail> {
         export: Wh::new(2000).unwrap(),
         power: Watt::new(0).unwrap(),
     };
-    assert_eq!(rt; problem.arc(0, 1), Some(discharge));
+    assert!(rt; problem.arc(0, 1) == Some(discharge));
     Ok(())
 }
 
@@ -248,12 +248,7 @@ fn reads_the_schedule_of_a_month(rt: HostRuntime) -> Result<(), Fail> {
 }
 
 #[test]
-fn gives_lists_back(rt: HostRuntime) -> Result<(), Fail> {
-    let alloc = rt.alloc();
-    let readings = NetList::from_vec(vec![in alloc; Wh::new(5).unwrap(); 3]?).into_vec();
-    assert_eq!(rt; readings.len(), 3);
-    let modes = ModeList::from_vec(Vec::new(alloc));
-    assert!(rt; modes.is_empty() && modes.into_vec().is_empty());
+fn names_have_1_to_64_bytes(rt: HostRuntime) {
     assert!(rt; Name::new(b"").is_none() && Name::new(&[b'a'; 65]).is_none());
-    Ok(())
+    assert!(rt; Name::new(&[b'a'; 64]).is_some());
 }

@@ -49,7 +49,7 @@ fn no_way_is_dearer_than_every_cost(rt: HostRuntime) {
         one.plus(two).minus(one).least(one).greatest(two).units(),
         2
     );
-    assert_eq!(rt; Pot::NoWay.least(Pot::To(one)), Pot::To(one));
-    assert_eq!(rt; Pot::To(one).plus(one), Pot::To(two));
+    assert!(rt; Pot::NoWay.least(Pot::To(one)) == Pot::To(one));
+    assert!(rt; Pot::To(one).plus(one) == Pot::To(two));
     assert!(rt; Pot::To(two).at_most(Pot::NoWay) && !Pot::NoWay.at_most(Pot::To(two)));
 }

@@ -4,8 +4,8 @@ ghost use Rattle.std.specs.Prelude.{◌≡◌, ◌*◌, ◌^◌};
 ghost use Rattle.d_num.specs.Amount.{IsWithin};
 ghost use Rattle.d_num.specs.declared.pot.Pot.TheVariants.{To};
 
-use crate::{Layers, Move, Ways, backward, first_cheapest};
 use d_num::{Money, NoMemory, Pot};
+use d_path::{Layers, Move, Ways, backward, first_cheapest};
 
 fn cost(units: i128) -> Pot
     requires { IsWithin (10 ^ 6) units }

@@ -1,120 +1,70 @@
 //! Decimals of every form, grids and lists in brackets, and the texts of numbers.
 
-use super::*;
 use d_num::{Money, Rate};
+use d_text::{
+    DecimalFault, Span, money_text, rate_text, read_decimal, read_floor, read_grid, reads_one_way,
+    reads_or_not, reads_or_refuses, rounds_one_way, split_list, splits_one_way, whole_text,
+};
 use std::alloc::{AllocError, Global};
+
+/// What a case says of a cell: the number of units, or why there is none and at which place.
+fn answer_of(text: &str) -> Option<Result<i128, DecimalFault>> {
+    match text {
+        "empty" => Some(Err(DecimalFault::Empty)),
+        "large" => Some(Err(DecimalFault::TooLarge)),
+        "fine" => Some(Err(DecimalFault::TooFine)),
+        _ => number_or_place(text),
+    }
+}
+
+/// The number of units, or the place at which a cell is no decimal.
+fn number_or_place(text: &str) -> Option<Result<i128, DecimalFault>> {
+    match text.split_once(' ') {
+        Some((_, place)) => Some(Err(DecimalFault::Form(place.parse::<usize>().ok()?))),
+        None => Some(Ok(text.parse::<i128>().ok()?)),
+    }
+}
 
 /// Readings of cells with 18 places and the limit 1000.
 #[test]
 fn reads_each_decimal(rt: HostRuntime) {
+    let cases =
+        "0=0|0=-0|0=+0|1000000000000000000=1|1000000000000000000=+1|-1000000000000000000=-1|7000000000000000000=007|\
+         1000000000000000000000=1000|1000000000000000000000=1000.0|large=1000.000000000000000001|\
+         -1000000000000000000000=-1000|large=-1001|500000000000000000=.5|5000000000000000000=5.|-500000000000000000=-.5|\
+         5000000000000000000=+5.|500000000000000000000=+.5E+3|form 1=.|form 1=-|form 1=+|form 2=+.|form 2=-.e1|form 2=1e|\
+         form 3=1e+|form 3=1E-|form 3=1e5x|form 3=0.1x|form 2=1..2|form 3=1.2.3|form 3=1e2.5|form 0=e5|form 1=++1|form 1=+-1|\
+         form 1=1-|form 1=1,5|form 1=0x10|form 1=1_000|form 0=inf|form 0=NaN|form 1=--|0=0e99999999999999999999|\
+         0=-0e99999999999999999999|large=1e99999999999999999999|fine=1e-99999999999999999999|0=0.000e-99999999999999999999|\
+         1000000000000000000000=1e3|large=1e4|1000000000000000000000=1E+3|1000000000000000000000=1e003|\
+         12000000000000000=12e-3|1=1e-18|fine=1e-19|1=10e-19|large=1e400|fine=1e-400|123456789012345678=0.123456789012345678|\
+         fine=0.1234567890123456789|100000000000000001=0.1000000000000000010|100000000000000000=0.1000000000000000000|\
+         100000000000000000000=100.000000000000000000000000000000000000|large=1234567890123456789012345678901234567890|\
+         fine=0.0000000000000000001234567890123456789012345678901234567890|fine=1234567890123456789012345678901234567890e-37|\
+         1000000000000000000=1000000000000000000000000000000000000000e-39|fine=9999999999999999999999999999999999999999e-37|\
+         250000000000000000=0000000000000000000000000000000000000000.25|100000000000000010=0.10000000000000001|\
+         299999999999999990=0.29999999999999999|69999999999999996=6.9999999999999996e-02|\
+         100000000000000000000=1.0000000000000000e+02|form 0= 1|form 1=1 |form 0=\t1|form 1=1\t|form 1=1\n|form 0=\u{e9}|\
+         form 1=1\u{a0}|form 0=\u{feff}1|empty=";
+    for case in cases.split('|') {
+        let (answer, cell) = case.split_once('=').expect(&rt, "an answer and a cell");
+        let wanted = answer_of(answer).expect(&rt, "an answer");
+        assert_eq!(rt;
+            read_decimal(cell.as_bytes(), 18, 1000),
+            wanted,
+            "at {case}"
+        );
+    }
+}
+
+/// The laws are functions that do nothing.
+#[test]
+fn laws_are_called(_rt: HostRuntime) {
     reads_one_way();
     reads_or_not();
     splits_one_way();
-    let cases: [(&[u8], Result<i128, DecimalFault>); 79] = [
-        (b"0", Ok(0)),
-        (b"-0", Ok(0)),
-        (b"+0", Ok(0)),
-        (b"1", Ok(1_000_000_000_000_000_000)),
-        (b"+1", Ok(1_000_000_000_000_000_000)),
-        (b"-1", Ok(-1_000_000_000_000_000_000)),
-        (b"007", Ok(7_000_000_000_000_000_000)),
-        (b"1000", Ok(1_000_000_000_000_000_000_000)),
-        (b"1000.0", Ok(1_000_000_000_000_000_000_000)),
-        (b"1000.000000000000000001", Err(DecimalFault::TooLarge)),
-        (b"-1000", Ok(-1_000_000_000_000_000_000_000)),
-        (b"-1001", Err(DecimalFault::TooLarge)),
-        (b".5", Ok(500_000_000_000_000_000)),
-        (b"5.", Ok(5_000_000_000_000_000_000)),
-        (b"-.5", Ok(-500_000_000_000_000_000)),
-        (b"+5.", Ok(5_000_000_000_000_000_000)),
-        (b"+.5E+3", Ok(500_000_000_000_000_000_000)),
-        (b".", Err(DecimalFault::Form(1))),
-        (b"-", Err(DecimalFault::Form(1))),
-        (b"+", Err(DecimalFault::Form(1))),
-        (b"+.", Err(DecimalFault::Form(2))),
-        (b"-.e1", Err(DecimalFault::Form(2))),
-        (b"1e", Err(DecimalFault::Form(2))),
-        (b"1e+", Err(DecimalFault::Form(3))),
-        (b"1E-", Err(DecimalFault::Form(3))),
-        (b"1e5x", Err(DecimalFault::Form(3))),
-        (b"0.1x", Err(DecimalFault::Form(3))),
-        (b"1..2", Err(DecimalFault::Form(2))),
-        (b"1.2.3", Err(DecimalFault::Form(3))),
-        (b"1e2.5", Err(DecimalFault::Form(3))),
-        (b"e5", Err(DecimalFault::Form(0))),
-        (b"++1", Err(DecimalFault::Form(1))),
-        (b"+-1", Err(DecimalFault::Form(1))),
-        (b"1-", Err(DecimalFault::Form(1))),
-        (b"1,5", Err(DecimalFault::Form(1))),
-        (b"0x10", Err(DecimalFault::Form(1))),
-        (b"1_000", Err(DecimalFault::Form(1))),
-        (b"inf", Err(DecimalFault::Form(0))),
-        (b"NaN", Err(DecimalFault::Form(0))),
-        (b"--", Err(DecimalFault::Form(1))),
-        (b"0e99999999999999999999", Ok(0)),
-        (b"-0e99999999999999999999", Ok(0)),
-        (b"1e99999999999999999999", Err(DecimalFault::TooLarge)),
-        (b"1e-99999999999999999999", Err(DecimalFault::TooFine)),
-        (b"0.000e-99999999999999999999", Ok(0)),
-        (b"1e3", Ok(1_000_000_000_000_000_000_000)),
-        (b"1e4", Err(DecimalFault::TooLarge)),
-        (b"1E+3", Ok(1_000_000_000_000_000_000_000)),
-        (b"1e003", Ok(1_000_000_000_000_000_000_000)),
-        (b"12e-3", Ok(12_000_000_000_000_000)),
-        (b"1e-18", Ok(1)),
-        (b"1e-19", Err(DecimalFault::TooFine)),
-        (b"10e-19", Ok(1)),
-        (b"1e400", Err(DecimalFault::TooLarge)),
-        (b"1e-400", Err(DecimalFault::TooFine)),
-        (b"0.123456789012345678", Ok(123_456_789_012_345_678)),
-        (b"0.1234567890123456789", Err(DecimalFault::TooFine)),
-        (b"0.1000000000000000010", Ok(100_000_000_000_000_001)),
-        (b"0.1000000000000000000", Ok(100_000_000_000_000_000)),
-        (
-            b"100.000000000000000000000000000000000000",
-            Ok(100_000_000_000_000_000_000),
-        ),
-        (
-            b"1234567890123456789012345678901234567890",
-            Err(DecimalFault::TooLarge),
-        ),
-        (
-            b"0.0000000000000000001234567890123456789012345678901234567890",
-            Err(DecimalFault::TooFine),
-        ),
-        (
-            b"1234567890123456789012345678901234567890e-37",
-            Err(DecimalFault::TooFine),
-        ),
-        (
-            b"1000000000000000000000000000000000000000e-39",
-            Ok(1_000_000_000_000_000_000),
-        ),
-        (
-            b"9999999999999999999999999999999999999999e-37",
-            Err(DecimalFault::TooFine),
-        ),
-        (
-            b"0000000000000000000000000000000000000000.25",
-            Ok(250_000_000_000_000_000),
-        ),
-        (b"0.10000000000000001", Ok(100_000_000_000_000_010)),
-        (b"0.29999999999999999", Ok(299_999_999_999_999_990)),
-        (b"6.9999999999999996e-02", Ok(69_999_999_999_999_996)),
-        (b"1.0000000000000000e+02", Ok(100_000_000_000_000_000_000)),
-        (b" 1", Err(DecimalFault::Form(0))),
-        (b"1 ", Err(DecimalFault::Form(1))),
-        (b"\t1", Err(DecimalFault::Form(0))),
-        (b"1\t", Err(DecimalFault::Form(1))),
-        (b"1\n", Err(DecimalFault::Form(1))),
-        (b"\xc3\xa9", Err(DecimalFault::Form(0))),
-        (b"1\xc2\xa0", Err(DecimalFault::Form(1))),
-        (b"\xef\xbb\xbf1", Err(DecimalFault::Form(0))),
-        (b"", Err(DecimalFault::Empty)),
-    ];
-    for (cell, answer) in cases {
-        assert_eq!(rt; read_decimal(cell, 18, 1000), answer);
-    }
+    rounds_one_way();
+    reads_or_refuses();
 }
 
 #[test]
@@ -125,17 +75,20 @@ fn rounds_down(rt: HostRuntime) {
 }
 
 #[test]
-fn writes_each_text_at_the_front(rt: HostRuntime) {
+fn writes_a_whole_number_at_the_front(rt: HostRuntime) {
     let mut room = [b'#'; 64];
     let end = whole_text(-1205, &mut room);
     assert_eq!(rt; &room[..end], b"-1205".as_slice());
     assert_eq!(rt; room[end], b'#');
-    let (Some(money), Some(rate)) = (Money::new(-12_340_500_000_000_000_000_000), Rate::new(1))
-    else {
-        unreachable!()
-    };
+}
+
+#[test]
+fn writes_money_and_prices_at_the_front(rt: HostRuntime) {
+    let mut room = [b'#'; 64];
+    let money = Money::new(-12_340_500_000_000_000_000_000).expect(&rt, "money");
     let end = money_text(money, &mut room);
     assert_eq!(rt; &room[..end], b"-12.3405".as_slice());
+    let rate = Rate::new(1).expect(&rt, "a price");
     let end = rate_text(rate, &mut room);
     assert_eq!(rt; &room[..end], b"0.000000000000000001".as_slice());
 }

@@ -7,7 +7,7 @@ ghost use Rattle.d_cal.specs.Calendar.{IsMonth, IsDayOf, IsWeekend};
 use jiff::civil::date;
 
 /// A month of the years 1 to 9999.
-#[derive(Clone, Copy, PartialEq, Eq, Debug)]
+#[derive(Clone, Copy, PartialEq, Eq)]
 pub struct Month {
     /// From 1 to 9999.
     pub year: i16,

@@ -10,7 +10,7 @@ const LAST_PERIOD: u8 = 35;
 
 /// The periods of a tariff, from 0 to 35, by month and hour, for weekdays and for weekends: a row a month with January first, in it
 /// an entry an hour with midnight first.
-#[derive(Clone, Copy, PartialEq, Eq, Debug)]
+#[derive(Clone, Copy)]
 pub struct Schedule {
     /// The grid of all days from Monday to Friday.
     pub weekday: [[u8; 24]; 12],

@@ -15,7 +15,7 @@ const ENERGY_LIMIT: i64 = 20_000_000_000_000;
 const POWER_LIMIT: i64 = 10_000_000_000_000;
 
 /// An amount of money in units of 10^-21 USD, at most 10^37 units in size. A contract sees it as the number of its units.
-#[derive(Clone, Copy, PartialEq, Eq, PartialOrd, Ord, Debug)]
+#[derive(Clone, Copy, PartialEq, Eq, PartialOrd, Ord)]
 pub struct Money(i128);
 
 impl Model for Money {
@@ -84,7 +84,7 @@ impl Money {
 }
 
 /// A price in units of 10^-18 USD per kWh or per kW, at most 10^22 units in size. A contract sees it as the number of its units.
-#[derive(Clone, Copy, PartialEq, Eq, PartialOrd, Ord, Debug)]
+#[derive(Clone, Copy, PartialEq, Eq, PartialOrd, Ord)]
 pub struct Rate(i128);
 
 impl Model for Rate {
@@ -139,7 +139,7 @@ impl Rate {
 }
 
 /// An amount of energy in watt-hours, at most 2 * 10^13 in size. A contract sees it as that number.
-#[derive(Clone, Copy, PartialEq, Eq, PartialOrd, Ord, Debug)]
+#[derive(Clone, Copy, PartialEq, Eq, PartialOrd, Ord)]
 pub struct Wh(i64);
 
 impl Model for Wh {
@@ -178,7 +178,7 @@ impl Wh {
 }
 
 /// A power in watts, from 0 to 10^13. A contract sees it as that number.
-#[derive(Clone, Copy, PartialEq, Eq, PartialOrd, Ord, Debug)]
+#[derive(Clone, Copy, PartialEq, Eq, PartialOrd, Ord)]
 pub struct Watt(i64);
 
 impl Model for Watt {

@@ -7,7 +7,7 @@ ghost use Rattle.d_num.specs.declared.pot.Pot.TheVariants.{To, NoWay};
 use crate::amount::Money;
 
 /// The cost from a place to the month's end, or that no way leads there. `NoWay` is greater than every cost.
-#[derive(Clone, Copy, PartialEq, Eq, Debug)]
+#[derive(Clone, Copy, PartialEq, Eq)]
 pub enum Pot {
     To(Money),
     NoWay,

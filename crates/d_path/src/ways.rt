@@ -3,7 +3,7 @@
 use d_num::Pot;
 
 /// One thing that may be done in an interval.
-#[derive(Clone, Copy, PartialEq, Eq, Debug)]
+#[derive(Clone, Copy)]
 pub struct Move {
     /// By how many levels the level rises.
     pub change: i16,
@@ -17,7 +17,7 @@ pub struct Move {
 ///
 /// A way takes one move per interval: none that may not be used, each begun in its range of levels, each level after it from `floor`
 /// to `capacity`, and the last level at least `end`. This is our own rule.
-#[derive(Clone, Copy, Debug)]
+#[derive(Clone, Copy)]
 pub struct Ways<'a> {
     /// What each move costs in each interval, in money, interval by interval; `NoWay` marks a move that may not be used there.
     pub costs: &'a [Pot],

@@ -18,3 +18,4 @@ pub mod PartFacts
 pub mod GridFacts
 pub mod GridLaws
 pub mod OutcomeLaws
+pub mod OnceLaws

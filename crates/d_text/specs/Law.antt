@@ -34,20 +34,24 @@ HasOneList = (cell : List ℕ) (spans others : List Span) → IsListOf cell span
 abbrev pub HasOneFloor : Type 0
 HasOneFloor = (cell : List ℕ) (places limit : ℕ) (units other : ℤ) → IsFloorOf cell places limit units → IsFloorOf cell places limit other → units ≡ other
 
--- each cell has a value, or a reason why it has none
+-- a cell has exactly one value and no fault, or exactly one fault and no value
+abbrev pub HasOneOutcome : {V F : Type 0} → (V → Type 0) → (F → Type 0) → Type 0
+HasOneOutcome {V} {F} IsValue IsFault =
+    ((value : V) × IsValue value × ((other : V) → IsValue other → other ≡ value) × ((fault : F) → IsFault fault → ⊥))
+    ⊎ ((fault : F) × IsFault fault × ((other : F) → IsFault other → other ≡ fault) × ((value : V) → IsValue value → ⊥))
+
+-- each cell has one value as a decimal, or one reason why it has none, and never both
 abbrev pub HasValueOrFault : Type 0
-HasValueOrFault = (cell : List ℕ) (places limit : ℕ)
-    → ((units : ℤ) × IsDecimalOf cell places limit units) ⊎ ((fault : DecimalFault) × IsDecimalFault cell places limit fault)
+HasValueOrFault = (cell : List ℕ) (places limit : ℕ) → HasOneOutcome (IsDecimalOf cell places limit) (IsDecimalFault cell places limit)
 
--- each cell has a value rounded down, or a reason why it has none
+-- each cell has one value rounded down, or one reason why it has none, and never both
 abbrev pub HasFloorOrFault : Type 0
-HasFloorOrFault = (cell : List ℕ) (places limit : ℕ)
-    → ((units : ℤ) × IsFloorOf cell places limit units) ⊎ ((fault : DecimalFault) × IsFloorFault cell places limit fault)
+HasFloorOrFault = (cell : List ℕ) (places limit : ℕ) → HasOneOutcome (IsFloorOf cell places limit) (IsFloorFault cell places limit)
 
--- each cell is a grid, or refused as one at some place
+-- each cell is one grid, or refused as one at one place, and never both
 abbrev pub HasGridOrFault : Type 0
-HasGridOrFault = (cell : List ℕ) → ((rows : List (List ℕ)) × IsGridOf cell rows) ⊎ ((place : ℕ) × IsGridFault cell place)
+HasGridOrFault = (cell : List ℕ) → HasOneOutcome (IsGridOf cell) (IsGridFault cell)
 
--- each cell is a list of items, or refused as one at some place
+-- each cell is one list of items, or refused as one at one place, and never both
 abbrev pub HasListOrFault : Type 0
-HasListOrFault = (cell : List ℕ) → ((spans : List Span) × IsListOf cell spans) ⊎ ((place : ℕ) × IsListFault cell place)
+HasListOrFault = (cell : List ℕ) → HasOneOutcome (IsListOf cell) (IsListFault cell)

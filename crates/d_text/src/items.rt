@@ -13,7 +13,9 @@ use crate::grid::GridFault;
 /// A part of a cell, from `from` up to before `to`.
 #[derive(Clone, Copy, Debug, PartialEq, Eq)]
 pub struct Span {
+    /// The place of its first byte, from 0.
     pub from: usize,
+    /// The place behind its last byte.
     pub to: usize,
 }
 

@@ -23,7 +23,8 @@ pub fn rounds_one_way()
     ensures { HasOneFloor }
 {}
 
-/// Each cell is read or refused for a reason: as a decimal, as a decimal rounded down, as a grid, and as a list of twelve items.
+/// Each cell is read in one way or refused for one reason, and never both: as a decimal, as a decimal rounded down, as a grid, and as a
+/// list of twelve items.
 pub fn reads_or_refuses()
     ensures decimal { HasValueOrFault }
     ensures floor { HasFloorOrFault }

@@ -3,7 +3,7 @@
 use d_num::Rate;
 
 /// The price of what lies in a tier, and where the tier ends; the last tier of a table has no end.
-#[derive(Clone, Copy, PartialEq, Eq, Debug)]
+#[derive(Clone, Copy, PartialEq, Eq)]
 pub struct Tier {
     /// In units of 10^-18 USD per kWh or per kW.
     pub price: Rate,

@@ -10,7 +10,7 @@ use std::marker::Model;
 const MOST_TIERS: usize = 16;
 
 /// 1 to 16 tiers whose ends rise, in which neighbours have different prices and the last has no end. A contract sees the list of them.
-#[derive(Drop, Debug)]
+#[derive(Drop)]
 pub struct Tiers {
     count: usize,
     tiers: [Tier; MOST_TIERS],
