@@ -2,10 +2,8 @@
 # Plans ten thousand records that were changed at random: bytes flipped, cells swapped, columns doubled. Each has to end in a plan, in a
 # refusal of the record by its number and name, or in that no schedule is feasible: statuses 0, 2 and 5. It needs the built program and isn't
 # part of the gate. COUNT and SEED may be given as words.
-top=$(CDPATH='' cd -- "$(dirname -- "$0")/.." && pwd) || exit 1
-work=$(mktemp -d) || exit 1
-trap 'rm -rf "$work"' EXIT
-"$top/dispatch" --help >/dev/null || exit 1
+. "$(dirname -- "$0")/lib.sh"
+built
 python3 - "$top" "$work" "${1:-10000}" "${2:-1}" <<'PY'
 import collections, csv, io, random, re, subprocess, sys
 top, work, count, seed = sys.argv[1], sys.argv[2], int(sys.argv[3]), int(sys.argv[4])

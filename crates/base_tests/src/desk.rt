@@ -83,7 +83,7 @@ fn tells_what_was_written_and_opened(rt: HostRuntime) -> Result<(), Fail> {
     assert!(rt; desk.open_in("other").is_err());
     let opened = desk.openings();
     assert_eq!(rt; opened.len(), 2);
-    assert_eq!(rt; opened[0].way, Direction::Out);
+    assert!(rt; opened[0].way == Direction::Out);
     assert_eq!(rt; opened[1].name.as_str(), "other");
     Ok(())
 }

@@ -5,9 +5,9 @@ ghost use Rattle.d_num.specs.Amount.{IsWithin};
 
 use d_list::Items;
 use d_model::{
-    Arc, Battery, Meter, Mode, Month, Name, Problem, ScheduleFault, Tally, is_start, read_schedule,
+    Battery, Meter, Mode, Month, Name, Problem, ScheduleFault, Tally, is_start, read_schedule,
 };
-use d_num::{NoMemory, Rate, Watt, Wh};
+use d_num::{NoMemory, Rate, Wh};
 use d_table::read_table;
 use std::alloc::{AllocError, Global};
 use std::process::Abort;
@@ -146,12 +146,15 @@ fn shows_what_it_was_made_of(rt: HostRuntime) -> Result<(), Fail> {
     let modes = problem.battery().modes.as_slice();
     assert_eq!(rt; modes.len(), 2);
     assert_eq!(rt; modes[1].name.bytes(), b"discharge".as_slice());
-    let discharge = Arc {
-        import: Wh::new(0).unwrap(),
-        export: Wh::new(2000).unwrap(),
-        power: Watt::new(0).unwrap(),
-    };
-    assert!(rt; problem.arc(0, 1) == Some(discharge));
+    let discharge = problem.arc(0, 1).expect(&rt, "an arc");
+    assert_eq!(rt;
+        (
+            discharge.import.value(),
+            discharge.export.value(),
+            discharge.power.value()
+        ),
+        (0, 2000, 0)
+    );
     Ok(())
 }
 
@@ -197,52 +200,42 @@ fn schedule_text(
     Ok(text)
 }
 
+/// What is wrong with a schedule's file, with its numbers.
+fn shown(fault: ScheduleFault) -> (&'static str, u64, u64) {
+    match fault {
+        ScheduleFault::Shape => ("shape", 0, 0),
+        ScheduleFault::Count(have, need) => ("count", have, need),
+        ScheduleFault::Start(row) => ("start", row, 0),
+        ScheduleFault::Mode(row) => ("mode", row, 0),
+    }
+}
+
 #[test]
 fn reads_the_schedule_of_a_month(rt: HostRuntime) -> Result<(), Fail> {
     let alloc = rt.alloc();
     let meter = february(alloc, 1000)?;
     let battery = battery(&rt, alloc, 4, 1, 0)?;
     let problem = Problem::plain(alloc, Rate::new(7).unwrap(), &meter, &battery)?;
-    let cases: [(&str, u16, u16, &str, Result<(), ScheduleFault>); 5] = [
-        ("START,Mode", 0, 672, "discharge", Ok(())),
-        (
-            "start,net_wh",
-            0,
-            672,
-            "discharge",
-            Err(ScheduleFault::Shape),
-        ),
-        (
-            "start,mode",
-            0,
-            671,
-            "discharge",
-            Err(ScheduleFault::Count(671, 672)),
-        ),
-        (
-            "start,mode",
-            1,
-            672,
-            "discharge",
-            Err(ScheduleFault::Start(0)),
-        ),
-        (
-            "start,mode",
-            0,
-            672,
-            "Discharge",
-            Err(ScheduleFault::Mode(5)),
-        ),
+    let cases = [
+        ("START,Mode", 0, 672, "discharge", ("", 0, 0)),
+        ("start,net_wh", 0, 672, "discharge", ("shape", 0, 0)),
+        ("start,mode", 0, 671, "discharge", ("count", 671, 672)),
+        ("start,mode", 1, 672, "discharge", ("start", 0, 0)),
+        ("start,mode", 0, 672, "Discharge", ("mode", 5, 0)),
     ];
-    for (header, from, count, sixth, want) in cases {
+    for (header, from, count, sixth, wanted) in cases {
         let text = schedule_text(alloc, header, from, count, sixth)?;
         let table = read_table(alloc, text.as_bytes())?;
         let mut schedule = [9; 672];
         assert_eq!(rt; problem.intervals(), 672);
-        let found = read_schedule(&table, &problem, &mut schedule);
-        assert_eq!(rt; found, want);
-        let shown = if found.is_ok() { (0, 1, 0) } else { (9, 9, 9) };
-        assert_eq!(rt; (schedule[4], schedule[5], schedule[671]), shown);
+        let found = match read_schedule(&table, &problem, &mut schedule) {
+            Ok(()) => ("", 0, 0),
+            Err(fault) => shown(fault),
+        };
+        assert_eq!(rt; found, wanted);
+        let modes = (schedule[4], schedule[5], schedule[671]);
+        let kept = if found.0 == "" { (0, 1, 0) } else { (9, 9, 9) };
+        assert_eq!(rt; modes, kept);
     }
     Ok(())
 }

@@ -3,6 +3,7 @@ use Rattle.std.specs.Prelude.{ℕ}
 use Rattle.d_desk.specs.declared.plan.DeskCall.{DeskCall}
 use Rattle.d_desk.specs.declared.plan.DeskCall.TheVariants as call
 
+-- the place of a kind of call among the counts
 abbrev pub number_of : DeskCall → ℕ
 number_of call.OpenIn = 0
 number_of call.Read = 1

@@ -20,6 +20,8 @@ pub record Opening : Type 0 where
 abbrev pub opening : Direction → List ℕ → Opening
 opening w n = record { way = w; name = n }
 
+-- what a desk is about: its files, what is left to read of the open input, what the last output has taken, all that was printed, and
+-- all openings in order
 pub record Scene : Type 0 where
   -- the files
   pub files : Files

@@ -3,6 +3,7 @@ use Rattle.std.specs.Prelude.{ℕ, List, [], Bool, false, Some, None, bytes_eq}
 use Rattle.std.specs.Map.{update}
 use Rattle.d_desk.specs.Scene.{Files, Scene}
 
+-- the scene, what is open, how much of the input was read, how much one call moves at most, and how many calls failed
 pub record State : Type 0 where
   pub scene : Scene
   pub input_open : Bool

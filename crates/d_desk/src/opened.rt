@@ -1,5 +1,5 @@
 /// Which way a file is opened.
-#[derive(Clone, Copy, Debug, PartialEq, Eq)]
+#[derive(Clone, Copy, PartialEq, Eq)]
 pub enum Direction {
     /// For reading.
     In,
@@ -8,7 +8,7 @@ pub enum Direction {
 }
 
 /// One opening of a file, which a desk in memory lists.
-#[derive(Debug, Drop)]
+#[derive(Drop)]
 pub struct Opened {
     /// For reading or for writing.
     pub way: Direction,

@@ -4,7 +4,7 @@ ghost use Rattle.d_desk.specs.Planned.{number_of};
 use std::alloc::{AllocError, Global};
 
 /// A kind of call on a desk.
-#[derive(Clone, Copy, Debug, PartialEq, Eq)]
+#[derive(Clone, Copy, PartialEq, Eq)]
 pub enum DeskCall {
     OpenIn,
     Read,
@@ -15,9 +15,11 @@ pub enum DeskCall {
 }
 
 /// A call that is to fail: that of this number among the calls of its kind, which count from 1.
-#[derive(Clone, Copy, Debug, PartialEq, Eq)]
+#[derive(Clone, Copy, PartialEq, Eq)]
 pub struct PlannedFault {
+    /// Its kind.
     pub kind: DeskCall,
+    /// Its number among the calls of its kind, which count from 1.
     pub number: u32,
 }
 

@@ -3,7 +3,7 @@
 use d_num::{Watt, Wh};
 
 /// Import, export and power of an interval in a mode.
-#[derive(Clone, Copy, PartialEq, Eq)]
+#[derive(Clone, Copy)]
 pub struct Arc {
     /// The energy from the grid, from 0 to 2 * 10^9 Wh.
     pub import: Wh,
@@ -14,7 +14,7 @@ pub struct Arc {
 }
 
 /// The interval, counted from 0, at which a schedule breaks a rule; the number of intervals where only the end level is missed.
-#[derive(Clone, Copy, PartialEq, Eq)]
+#[derive(Clone, Copy)]
 pub struct At {
     /// From 0 to the number of intervals.
     pub interval: u32,

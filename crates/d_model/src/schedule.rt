@@ -9,7 +9,7 @@ use crate::start::is_start;
 use d_table::Table;
 
 /// Why a table is no schedule. Rows are data rows, counted from 0.
-#[derive(Clone, Copy, Debug, PartialEq, Eq)]
+#[derive(Clone, Copy)]
 pub enum ScheduleFault {
     /// The header isn't exactly `start,mode`, ASCII case ignored.
     Shape,

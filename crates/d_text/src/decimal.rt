@@ -10,7 +10,7 @@ use crate::scan::Scan;
 use crate::size::size_within;
 
 /// Why a cell is refused.
-#[derive(Clone, Copy, PartialEq, Eq, Debug)]
+#[derive(Clone, Copy)]
 pub enum DecimalFault {
     /// The cell is empty.
     Empty,

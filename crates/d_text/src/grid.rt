@@ -10,7 +10,7 @@ use crate::brackets::{Role, Stage, role_of};
 use crate::row::RowScan;
 
 /// A cell is refused: so many of its bytes are still the beginning of a text of the form, and no more.
-#[derive(Clone, Copy, Debug, PartialEq, Eq)]
+#[derive(Clone, Copy)]
 pub struct GridFault {
     pub place: usize,
 }

@@ -11,7 +11,7 @@ use crate::brackets::{Role, Stage, role_of};
 use crate::grid::GridFault;
 
 /// A part of a cell, from `from` up to before `to`.
-#[derive(Clone, Copy, Debug, PartialEq, Eq)]
+#[derive(Clone, Copy)]
 pub struct Span {
     /// The place of its first byte, from 0.
     pub from: usize,
