@@ -18,11 +18,14 @@ pub struct Kept {
     // The open input's bytes, of which the first `at` are read.
     input: Vec<u8>,
     at: usize,
+    /// Whether an input is open.
     pub reading: bool,
+    /// How many bytes the open input has given.
     pub taken: u64,
     // The open output's name, and what it has taken.
     output: String,
     saved: Vec<u8>,
+    /// Whether an output is open.
     pub writing: bool,
     printed: Vec<u8>,
     openings: Vec<Opened>,

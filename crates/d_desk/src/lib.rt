@@ -26,4 +26,3 @@ pub use opened::{Direction, Opened};
 pub use plan::{DeskCall, PlannedFault};
 pub use send::{print_all, save_all};
 pub use sure_desk::SureDesk;
-

@@ -27,7 +27,9 @@ pub struct PlannedFault {
 /// value.
 #[derive(Drop)]
 pub struct Plan {
+    /// The calls that are to fail.
     pub planned: Vec<PlannedFault>,
+    /// How many calls of each kind came.
     pub counts: [u32; 6],
 }
 

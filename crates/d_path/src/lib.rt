@@ -15,4 +15,3 @@ pub use first::first_cheapest;
 pub use layers::Layers;
 pub use least::backward;
 pub use ways::{Move, Ways};
-

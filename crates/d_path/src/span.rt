@@ -9,8 +9,11 @@ use crate::ways::{Move, Ways};
 /// The columns from which a move can be made, and those to which it leads.
 #[derive(Drop)]
 pub struct Span {
+    /// The first column from which it can be made.
     pub from: usize,
+    /// The column to which it leads from there.
     pub to: usize,
+    /// How many columns it can be made from.
     pub count: usize,
 }
 

@@ -13,7 +13,9 @@ use d_num::Pot;
 /// The least that the moves cost, and the number of the first move that costs so much.
 #[derive(Drop)]
 pub struct Best {
+    /// The least cost.
     pub cost: Pot,
+    /// The number of the first move that costs so much.
     pub number: usize,
 }
 

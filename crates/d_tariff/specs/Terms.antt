@@ -1,9 +1,9 @@
 -- A tariff's terms as plain values, and what all valid ones keep. The fields are those of a record of the Utility Rate Database; the
 -- limits are our own.
-use Rattle.std.specs.Prelude.{◌≡◌, ◌≢◌, ◌≤◌, ◌<◌, ◌*◌, ◌^◌, ℕ, Bool, List, Option, None, IsSome, All, length, slice_index_or}
+use Rattle.std.specs.Prelude.{◌≡◌, ◌≢◌, ◌≤◌, ◌<◌, ◌-◌, ◌*◌, ◌^◌, ℕ, ℤ, Bool, List, Option, None, IsSome, All, length, slice_index, slice_index_or}
 use Rattle.std.specs.Option.{ForSome}
 use Rattle.d_num.specs.Amount.{IsWithin, IsUpTo}
-use Rattle.d_cal.specs.Schedules.{entry_at}
+use Rattle.d_cal.specs.Schedules.{entry_at, period_of}
 use Rattle.d_tier.specs.declared.tier.Tier.{Tier}
 use Rattle.d_tariff.specs.declared.period.Period.{Period}
 use Rattle.d_tariff.specs.declared.charge.Charge.{Charge}
@@ -34,6 +34,14 @@ period_at periods number = slice_index_or periods number None
 -- the tiers of the demand period of that number; None where it has none
 abbrev pub tiers_at : List (Option (List Tier)) → ℕ → Option (List Tier)
 tiers_at lists number = slice_index_or lists number None
+
+-- the energy period in an hour, from 0, of a day of a month, each from 1
+abbrev pub energy_at : Terms → ℤ → ℕ → ℕ → ℕ → Option Period
+energy_at terms year month day hour = period_at terms.energy (period_of terms.energy_weekday terms.energy_weekend year month day hour)
+
+-- the tiers of a month's flat demand period, months counted from 1; None where it has none
+abbrev pub flat_tiers_in : Terms → ℕ → Option (List Tier)
+flat_tiers_in terms month = tiers_at terms.flat (slice_index terms.flat_months (month - 1))
 
 -- in each hour, from 0, of each month, from 1, the grid has a period that is there
 abbrev pub HasEach : List (Option Period) → List (List ℕ) → Type 0

@@ -52,10 +52,9 @@ pub struct Tariff {
 }
 
 impl Tariff {
-    ghost use Rattle.std.specs.Prelude.{◌≡◌, ◌≤◌, ◌<◌, ◌-◌, Some, None, option_map, slice_index, IfSome};
+    ghost use Rattle.std.specs.Prelude.{◌≡◌, ◌<◌, Some, option_map, IfSome};
     ghost use Rattle.d_cal.specs.Calendar.{IsDayOf};
-    ghost use Rattle.d_cal.specs.Schedules.{period_of};
-    ghost use Rattle.d_tariff.specs.Terms.{HasEnergyPrices, HasDemandPrices, period_at, tiers_at};
+    ghost use Rattle.d_tariff.specs.Terms.{HasEnergyPrices, HasDemandPrices, period_at, tiers_at, energy_at, flat_tiers_in};
     ghost use Rattle.d_tariff.specs.Shown.{terms_of};
 
     /// The energy period of that number, or None exactly where there is none.
@@ -71,7 +70,7 @@ impl Tariff {
     pub fn period_at(&self, month: Month, day: u8, hour: u8) -> &Period
         requires day { IsDayOf month.year month.number day }
         requires hour { hour < 24 }
-        ensures value { let terms = terms_of self.now in period_at terms.energy (period_of terms.energy_weekday terms.energy_weekend month.year month.number day hour) ≡ Some result.now }
+        ensures value { energy_at (terms_of self.now) month.year month.number day hour ≡ Some result.now }
         ensures prices { HasEnergyPrices result.now }
     {
         let number = self.energy_hours.period_at(month, day, hour);
@@ -91,9 +90,10 @@ impl Tariff {
 
     /// The tiers of the flat demand period of a month, or None exactly where it has none.
     pub fn flat_tiers(&self, month: Month) -> Option<&Tiers>
-        ensures value { let terms = terms_of self.now in option_map (λ tiers. tiers.now) result ≡ tiers_at terms.flat (slice_index terms.flat_months (month.number - 1)) }
+        ensures value { option_map (λ tiers. tiers.now) result ≡ flat_tiers_in (terms_of self.now) month.number }
         ensures prices { IfSome result (λ tiers. HasDemandPrices tiers.now) }
     {
-        self.flat.entry(self.flat_months[(month.number - 1) as usize])
+        self.flat
+            .entry(self.flat_months[(month.number - 1) as usize])
     }
 }

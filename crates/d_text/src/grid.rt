@@ -12,15 +12,20 @@ use crate::row::RowScan;
 /// A cell is refused: so many of its bytes are still the beginning of a text of the form, and no more.
 #[derive(Clone, Copy)]
 pub struct GridFault {
+    /// How many of the cell's bytes are the beginning of some grid or list.
     pub place: usize,
 }
 
 /// How far a grid is read: its complete rows stand at the front of `rows`, and `row` is the next so far.
 #[derive(Clone, Copy)]
 pub struct GridScan {
+    /// What was read last.
     pub stage: Stage,
+    /// How many rows are complete, from 0 to 12.
     pub count: usize,
+    /// How far the next row is read.
     pub row: RowScan,
+    /// The complete rows, at the front.
     pub rows: [[u8; 24]; 12],
 }
 
@@ -79,7 +84,8 @@ impl GridScan {
         requires room { self.old.count < 12 }
         requires row { IsRowScan self.old.row }
         ensures room { result ≡ true → IsGridScan self.new }
-        ensures goes { result ≡ true → spec.next_behind 12 (take self.old.count self.old.rows ++ self.old.row.numbers ∷ []) (spec.row_level self.old.row) role ≡ Some (spec.grid_level self.new) }
+        ensures goes { let rows = take self.old.count self.old.rows ++ self.old.row.numbers ∷ [] in
+            result ≡ true → spec.next_behind 12 rows (spec.row_level self.old.row) role ≡ Some (spec.grid_level self.new) }
         ensures stops { result ≡ false → spec.after_part 12 (self.old.count + 1) role ≡ None }
     {
         self.rows[self.count] = self.row.numbers;

@@ -22,9 +22,13 @@ pub struct Span {
 /// How far a list of items is read: where its complete items stand is at the front of `spans`, and `span` is the next so far.
 #[derive(Clone, Copy)]
 pub struct ListScan {
+    /// What was read last.
     pub stage: Stage,
+    /// How many items are complete, from 0 to 12.
     pub count: usize,
+    /// Where the next item stands so far.
     pub span: Span,
+    /// Where the complete items stand, at the front.
     pub spans: [Span; 12],
 }
 
@@ -86,7 +90,8 @@ impl ListScan {
     fn end(&mut self, role: Role) -> bool
         requires room { self.old.count < 12 }
         ensures room { result ≡ true → IsListScan self.new }
-        ensures goes { result ≡ true → spec.next_behind 12 (take self.old.count self.old.spans ++ self.old.span ∷ []) (Some self.old.span) role ≡ Some (spec.list_level self.new) }
+        ensures goes { let spans = take self.old.count self.old.spans ++ self.old.span ∷ [] in
+            result ≡ true → spec.next_behind 12 spans (Some self.old.span) role ≡ Some (spec.list_level self.new) }
         ensures stops { result ≡ false → spec.after_part 12 (self.old.count + 1) role ≡ None }
     {
         self.spans[self.count] = self.span;

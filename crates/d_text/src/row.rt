@@ -10,9 +10,13 @@ use crate::brackets::{Role, Stage, role_of};
 /// How far a list of 24 numbers is read: its complete numbers stand at the front of `numbers`, and `number` is the next so far.
 #[derive(Clone, Copy)]
 pub struct RowScan {
+    /// What was read last.
     pub stage: Stage,
+    /// How many numbers are complete, from 0 to 24.
     pub count: usize,
+    /// The next number so far, from 0 to 35.
     pub number: u8,
+    /// The complete numbers, at the front.
     pub numbers: [u8; 24],
 }
 
@@ -71,7 +75,8 @@ impl RowScan {
         requires room { self.old.count < 24 }
         requires small { self.old.number ≤ 35 }
         ensures room { result ≡ true → IsRowScan self.new }
-        ensures goes { result ≡ true → spec.next_behind 24 (take self.old.count self.old.numbers ++ self.old.number ∷ []) (Some self.old.number) role ≡ Some (spec.row_level self.new) }
+        ensures goes { let numbers = take self.old.count self.old.numbers ++ self.old.number ∷ [] in
+            result ≡ true → spec.next_behind 24 numbers (Some self.old.number) role ≡ Some (spec.row_level self.new) }
         ensures stops { result ≡ false → spec.after_part 24 (self.old.count + 1) role ≡ None }
     {
         self.numbers[self.count] = self.number;

@@ -31,19 +31,28 @@ pub enum Kind {
 /// A number by its first 38 digits, how many follow them, and whether one of those isn't 0.
 #[derive(Clone, Copy)]
 pub struct Number {
+    /// The number that its first digits make, below 10^38.
     pub top: u128,
+    /// How many digits follow them.
     pub dropped: u128,
+    /// Whether one of those isn't 0.
     pub lost: bool,
 }
 
 /// What is read of a decimal: the number that its digits make, how many stand behind the point, and its power of ten, up to 10^30.
 #[derive(Clone, Copy)]
 pub struct Scan {
+    /// What was read last.
     pub phase: Phase,
+    /// Whether a minus stands in front.
     pub minus: bool,
+    /// The number that its digits make.
     pub number: Number,
+    /// How many digits stand behind the point.
     pub behind: u128,
+    /// Whether the power has a minus.
     pub down: bool,
+    /// The size of the power, up to 10^30.
     pub power: u128,
 }
 

@@ -10,7 +10,9 @@ use crate::scan::{Number, Scan};
 /// A size in whole units, rounded down, and whether it is exactly that.
 #[derive(Clone, Copy)]
 pub struct Size {
+    /// The whole units, rounded down.
     pub floor: u128,
+    /// Whether nothing is left over.
     pub exact: bool,
 }
 
