@@ -6,7 +6,7 @@ ghost use Rattle.d_num.specs.Amount.{IsWithin};
 ghost use Rattle.d_tariff.specs.Terms.{IsCharge, IsMinimum};
 ghost use Rattle.d_urdb.specs.Charges as spec;
 ghost use Rattle.d_urdb.specs.Checks.{Checks};
-ghost use Rattle.d_urdb.specs.Numbers.{Readings, AreReadings};
+ghost use Rattle.d_urdb.specs.Numbers.{Reads};
 ghost use Rattle.d_urdb.specs.Shown.{row_of};
 
 use crate::fault::Refused;
@@ -20,8 +20,8 @@ const CHARGE_LIMIT: u64 = 1_000_000_000;
 impl<'a> Record<'a> {
     /// The fixed charge, which is 0 by the month where there is none; or why it is refused.
     pub(crate) fn fixed_charge(&self) -> Result<Charge, Refused>
-        ensures refusals { Checks (λ readings. spec.charge_refusals readings (row_of self.now) spec.fixed_name spec.fixed_unit_name) result }
-        ensures value { IfOk result (λ charge. (readings : Readings) → AreReadings readings → charge ≡ spec.fixed_of readings (row_of self.now)) }
+        ensures refusals { Checks (λ reader. spec.charge_refusals reader (row_of self.now) spec.fixed_name spec.fixed_unit_name) result }
+        ensures value { IfOk result (Reads (λ reader. spec.fixed_of reader (row_of self.now))) }
         ensures range { IfOk result IsCharge }
     {
         self.charge(b"fixedchargefirstmeter", b"fixedchargeunits")
@@ -29,8 +29,8 @@ impl<'a> Record<'a> {
 
     /// The minimum of a bill, or None where there is none; or why it is refused. One by the year is refused.
     pub(crate) fn minimum_charge(&self) -> Result<Option<Charge>, Refused>
-        ensures refusals { Checks (λ readings. spec.minimum_refusals readings (row_of self.now)) result }
-        ensures value { IfOk result (λ minimum. (readings : Readings) → AreReadings readings → minimum ≡ spec.minimum_of readings (row_of self.now)) }
+        ensures refusals { Checks (λ reader. spec.minimum_refusals reader (row_of self.now)) result }
+        ensures value { IfOk result (Reads (λ reader. spec.minimum_of reader (row_of self.now))) }
         ensures range { IfOk result (λ minimum. ForSome minimum IsMinimum) }
     {
         let minimum = self.charge(b"mincharge", b"minchargeunits")?;
@@ -46,14 +46,14 @@ impl<'a> Record<'a> {
 
     /// Tests that there is no minimum of a year's bills.
     pub(crate) fn check_annual(&self) -> Result<(), Refused>
-        ensures { Checks (λ readings. spec.annual_refusals readings (row_of self.now)) result }
+        ensures { Checks (λ reader. spec.annual_refusals reader (row_of self.now)) result }
     {
         self.check_zero(b"annualmincharge", 18)
     }
 
     /// Tests that the amount in the column of that name is 0; one that isn't is refused by this number. The name is in small letters.
     pub(crate) fn check_zero(&self, name: &[u8], number: u8) -> Result<(), Refused>
-        ensures { Checks (λ readings. spec.zero_refusals readings (row_of self.now) name.now number) result }
+        ensures { Checks (λ reader. spec.zero_refusals reader (row_of self.now) name.now number) result }
     {
         let amount = self.named_number(name, CHARGE_LIMIT)?;
         if amount != 0 {
@@ -66,8 +66,8 @@ impl<'a> Record<'a> {
     /// The charge in the column of that name, by the unit in the other column; or why it is refused. One of 0 is by the month, whatever
     /// its unit. Both names are in small letters.
     fn charge(&self, name: &[u8], unit_name: &[u8]) -> Result<Charge, Refused>
-        ensures refusals { Checks (λ readings. spec.charge_refusals readings (row_of self.now) name.now unit_name.now) result }
-        ensures value { IfOk result (λ charge. (readings : Readings) → AreReadings readings → charge ≡ spec.charge_of readings (row_of self.now) name.now unit_name.now) }
+        ensures refusals { Checks (λ reader. spec.charge_refusals reader (row_of self.now) name.now unit_name.now) result }
+        ensures value { IfOk result (Reads (λ reader. spec.charge_of reader (row_of self.now) name.now unit_name.now)) }
         ensures range { IfOk result IsCharge }
     {
         let amount = self.named_number(name, CHARGE_LIMIT)?;
@@ -104,7 +104,7 @@ fn is_year(unit: ChargeUnit) -> bool
 }
 
 /// The unit that a text says, or None where it says another. No text says the month.
-#[tactic(auto, unfolding(crate::specs::Charges::unit_in), using(crate::proofs::PastFacts::filled_cell, crate::proofs::IndexFacts::empty_cell))]
+#[tactic(auto, unfolding(crate::specs::Charges::unit_in), using(crate::proofs::MonthFacts::filled_is, crate::proofs::MonthFacts::empty_is))]
 fn read_unit(text: &[u8]) -> Option<ChargeUnit>
     ensures { result ≡ spec.unit_in text.now }
 {

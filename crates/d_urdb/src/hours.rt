@@ -3,25 +3,22 @@
 ghost use Rattle.std.specs.Prelude.{◌≡◌, ◌≤◌, ◌==◌, [], ◌∷◌, ◌&&◌, ◌||◌, not, IfOk, All};
 ghost use Rattle.std.specs.List.{list_any};
 ghost use Rattle.d_urdb.specs.Shown.{row_of};
-ghost use Rattle.d_urdb.specs.Numbers.{Readings, AreReadings};
-ghost use Rattle.d_urdb.specs.Tiers.{has_tier};
+ghost use Rattle.d_urdb.specs.Numbers.{Reads};
+ghost use Rattle.d_columns.specs.Tiers.{has_tier};
 ghost use Rattle.d_urdb.specs.Checks.{Checks};
 ghost use Rattle.d_urdb.specs.Hours as spec;
 ghost use Rattle.d_urdb.specs.Energy.{AreEnergyHours};
 
 use crate::fault::Refused;
-use crate::names::Structure;
 use crate::row::Record;
 use d_cal::Schedule;
+use d_columns::{PERIODS, Structure};
 use d_text::read_grid;
-
-/// How many energy periods there are.
-pub(crate) const PERIODS: u8 = 36;
 
 impl<'a> Record<'a> {
     /// The hours of the energy schedules, each in a period that has a tier, or why there are none.
     pub(crate) fn energy_hours(&self) -> Result<Schedule, Refused>
-        ensures refusals { Checks (λ readings. spec.hours_refusals readings (row_of self.now)) result }
+        ensures refusals { Checks (λ reader. spec.hours_refusals reader (row_of self.now)) result }
         ensures hours { IfOk result (AreEnergyHours (row_of self.now)) }
     {
         let weekday = self.hours(b"energyweekdayschedule")?;
@@ -33,8 +30,8 @@ impl<'a> Record<'a> {
     /// The period of each hour in the column of that name, which is in small letters, or why its cell is no grid. A blank cell is
     /// period 0 everywhere.
     pub(crate) fn hours(&self, name: &[u8]) -> Result<[[u8; 24]; 12], Refused>
-        ensures refusals { Checks (λ readings. spec.grid_refusal readings (row_of self.now) name.now ∷ []) result }
-        ensures value { IfOk result (λ hours. (readings : Readings) → AreReadings readings → hours ≡ spec.hours_in readings (row_of self.now) name.now) }
+        ensures refusals { Checks (λ reader. spec.grid_refusal reader (row_of self.now) name.now ∷ []) result }
+        ensures value { IfOk result (Reads (λ reader. spec.hours_in reader (row_of self.now) name.now)) }
         ensures range { IfOk result (All (All (λ period. period ≤ 35))) }
     {
         let mut hours = [[0; 24]; 12];
@@ -57,7 +54,7 @@ impl<'a> Record<'a> {
         weekday: &[[u8; 24]; 12],
         weekend: &[[u8; 24]; 12],
     ) -> Result<(), Refused>
-        ensures { Checks (λ readings. spec.missing_refusals (row_of self.now) weekday.now weekend.now) result }
+        ensures { Checks (λ reader. spec.missing_refusals (row_of self.now) weekday.now weekend.now) result }
     {
         for period in 0..PERIODS {
             if self.is_missing(period, weekday, weekend) {

@@ -4,7 +4,7 @@ ghost use Rattle.std.specs.Prelude.{◌≡◌, ◌≤◌, ◌*◌, ◌^◌, [], 
 ghost use Rattle.d_num.specs.Amount.{IsWithin};
 ghost use Rattle.d_urdb.specs.Checks.{Checks};
 ghost use Rattle.d_urdb.specs.NamedNumbers as spec;
-ghost use Rattle.d_urdb.specs.Numbers.{Readings, AreReadings};
+ghost use Rattle.d_urdb.specs.Numbers.{Reads};
 ghost use Rattle.d_urdb.specs.Shown.{row_of};
 
 use crate::fault::Refused;
@@ -16,8 +16,8 @@ impl<'a> Record<'a> {
     /// cell is blank or there is no such column. The name is in small letters.
     pub(crate) fn named_number(&self, name: &[u8], limit: u64) -> Result<i128, Refused>
         requires limit { limit ≤ 10 ^ 10 }
-        ensures refusals { Checks (λ readings. spec.name_refusal readings (row_of self.now) limit name.now ∷ []) result }
-        ensures value { IfOk result (λ units. (readings : Readings) → AreReadings readings → units ≡ spec.named_number readings (row_of self.now) limit name.now) }
+        ensures refusals { Checks (λ reader. spec.name_refusal reader (row_of self.now) limit name.now ∷ []) result }
+        ensures value { IfOk result (Reads (λ reader. spec.named_number reader (row_of self.now) limit name.now)) }
         ensures range { IfOk result (IsWithin (limit * 10 ^ 18)) }
     {
         match read_number(self.named_cell(name), limit) {

@@ -10,7 +10,7 @@ use crate::row::Record;
 impl<'a> Record<'a> {
     /// Tests that nothing is charged for reactive power.
     pub(crate) fn check_reactive(&self) -> Result<(), Refused>
-        ensures { Checks (λ readings. reactive_refusals readings (row_of self.now)) result }
+        ensures { Checks (λ reader. reactive_refusals reader (row_of self.now)) result }
     {
         self.check_zero(b"demandreactivepowercharge", 17)
     }

@@ -5,11 +5,11 @@ ghost use Rattle.d_urdb.specs.declared.rule.RuleChoice.TheVariants.{AsRecorded};
 ghost use Rattle.d_urdb.specs.Checks.{Checks};
 ghost use Rattle.d_urdb.specs.Record as spec;
 ghost use Rattle.d_urdb.specs.Shown.{row_of};
-ghost use Rattle.d_urdb.specs.Tiers.{named_cell, is_filled};
+ghost use Rattle.d_columns.specs.Tiers.{named_cell, is_filled};
 
 use crate::fault::Refused;
-use crate::reading::is_named;
 use crate::row::Record;
+use d_table::is_named;
 
 /// Which rule a record is planned by.
 #[derive(Clone, Copy, PartialEq, Eq, Debug)]
@@ -24,7 +24,7 @@ impl<'a> Record<'a> {
     /// Tests the record's rule of billing.
     #[tactic(auto, unfolding(crate::specs::Refusals::first_of))]
     pub(crate) fn check_rule(&self, rule: RuleChoice) -> Result<(), Refused>
-        ensures { Checks (λ readings. spec.rule_refusals (row_of self.now) rule) result }
+        ensures { Checks (λ reader. spec.rule_refusals (row_of self.now) rule) result }
     {
         match rule {
             RuleChoice::AsRecorded => self.check_recorded_rule(),
@@ -42,7 +42,7 @@ impl<'a> Record<'a> {
     /// Tests the rule that the record says.
     #[tactic(auto, unfolding(crate::specs::Refusals::first_of))]
     fn check_recorded_rule(&self) -> Result<(), Refused>
-        ensures { Checks (λ readings. spec.rule_refusals (row_of self.now) AsRecorded) result }
+        ensures { Checks (λ reader. spec.rule_refusals (row_of self.now) AsRecorded) result }
     {
         if self.says_rule(b"net metering") {
             return Err(self.rule_refusal(13));

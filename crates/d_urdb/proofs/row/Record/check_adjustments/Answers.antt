@@ -8,17 +8,17 @@ use Rattle.d_urdb.proofs.row.Record.check_adjustments.Goals as goal
 pub returns-in_err-check_coincident : goal.returns-in_err-check_coincident
 returns-in_err-check_coincident c =
     let p = err_from_is_err_and c.from_residual.result c.from_residual.ensures.1 in
-    rw (p.1, p.2) (λ readings are. some_before _ _ _ (c.in_err-check_coincident.ensures readings are))
+    rw (p.1, p.2) (λ reader are. some_before _ _ _ (c.in_err-check_coincident.ensures reader are))
 
 pub returns-in_err-check_reactive : goal.returns-in_err-check_reactive
 returns-in_err-check_reactive c =
     let p = err_from_is_err_and c.from_residual-in_err-check_reactive.result c.from_residual-in_err-check_reactive.ensures.1 in
-    rw (p.1, p.2) (λ readings are. none_before _ _ (c.in_ok-check_coincident.ensures readings are) ∙ some_before _ _ _ (c.in_err-check_reactive.ensures readings are))
+    rw (p.1, p.2) (λ reader are. none_before _ _ (c.in_ok-check_coincident.ensures reader are) ∙ some_before _ _ _ (c.in_err-check_reactive.ensures reader are))
 
 pub returns : goal.returns
 returns c =
     let row = row_of c.args.self.now in
-    then_checks (λ readings. coincident_refusals readings row) (λ readings. reactive_refusals readings row ++ fuel_refusals readings row) c.check_fuel.result
+    then_checks (λ reader. coincident_refusals reader row) (λ reader. reactive_refusals reader row ++ fuel_refusals reader row) c.check_fuel.result
     c.in_ok-check_coincident.ensures
-    (then_checks (λ readings. reactive_refusals readings row) (λ readings. fuel_refusals readings row) c.check_fuel.result
+    (then_checks (λ reader. reactive_refusals reader row) (λ reader. fuel_refusals reader row) c.check_fuel.result
     c.in_ok-check_reactive.ensures c.check_fuel.ensures)
