@@ -16,7 +16,8 @@ fn table_of(alloc: Global, file: &str) -> Result<Table, Fail> {
 /// From each of these names something is read.
 #[test]
 fn names_of_tiers_are_read(rt: HostRuntime) -> Result<(), Fail> {
-    let names = "energyratestructure/period0/tier0max,EnergyRateStructure/Period35/Tier0Unit,ENERGYRATESTRUCTURE/PERIOD9/TIER0SELL,\
+    let names =
+        "energyratestructure/period0/tier0max,EnergyRateStructure/Period35/Tier0Unit,ENERGYRATESTRUCTURE/PERIOD9/TIER0SELL,\
         demandratestructure/period35/tier0adj,flatdemandstructure/period10/tier0rate,coincidentratestructure/period35/tier15adj";
     check_ignored(rt.alloc(), names, "1,kWh,1,1,1,0", "")
 }
@@ -24,7 +25,8 @@ fn names_of_tiers_are_read(rt: HostRuntime) -> Result<(), Fail> {
 /// From none of these names is anything read.
 #[test]
 fn other_names_are_ignored(rt: HostRuntime) -> Result<(), Fail> {
-    let names = "name,energyratestructure,energyratestructure/period0/tier0,energyratestructure/period/tier0rate,\
+    let names =
+        "name,energyratestructure,energyratestructure/period0/tier0,energyratestructure/period/tier0rate,\
         energyratestructure/period36/tier0rate,energyratestructure/period100/tier0rate,energyratestructure/period01/tier0rate,\
         energyratestructure/period0/tierrate,energyratestructure/period0/tier00rate,energyratestructure/period0/tier0rates,\
         energyratestructure/period0/tier0 rate,coincidentratestructures/period0/tier0rate,demandratestructure/period0/tier0sell,\
@@ -39,8 +41,9 @@ fn other_names_are_ignored(rt: HostRuntime) -> Result<(), Fail> {
 
 /// Reads a record of a label, a rate and these columns, and compares the columns that it lists as those that nothing is read from.
 fn check_ignored(alloc: Global, names: &str, cells: &str, wanted: &str) -> Result<(), Fail> {
-    let file =
-        format!(in alloc; "label,energyratestructure/period0/tier0rate,{names}\nL,0.10,{cells}\n")?;
+    let file = format!(in alloc;
+        "label,energyratestructure/period0/tier0rate,{names}\nL,0.10,{cells}\n"
+    )?;
     let table = table_of(alloc, file.as_str())?;
     let Ok(tariff) = read_record(alloc, &table, b"L", RuleChoice::AsRecorded) else {
         return Err(Fail::new("a record that is refused"));
@@ -69,9 +72,17 @@ fn the_first_column_of_a_name_counts(rt: HostRuntime) -> Result<(), Fail> {
     };
     assert!(rt; cells.part_column(Structure::Energy, 3, 0, Part::Rate) == Some(1));
     assert!(rt; cells.part_column(Structure::Energy, 35, 15, Part::Sell) == Some(2));
-    assert!(rt; cells.part_column(Structure::Demand, 0, 1, Part::Unit).is_none());
+    assert!(rt;
+        cells
+            .part_column(Structure::Demand, 0, 1, Part::Unit)
+            .is_none()
+    );
     assert!(rt; cells.part_column(Structure::Demand, 0, 1, Part::Adj) == Some(5));
-    assert!(rt; cells.part_column(Structure::FlatDemand, 0, 1, Part::Adj).is_none());
+    assert!(rt;
+        cells
+            .part_column(Structure::FlatDemand, 0, 1, Part::Adj)
+            .is_none()
+    );
     Ok(())
 }
 
