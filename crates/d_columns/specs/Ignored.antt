@@ -41,11 +41,15 @@ is_month_column row column list =
     has_name row column (list_name list)
     || (not (is_listed row list) && list_any (λ month. has_name row column (month_name list month)) (range_with_len 0 12))
 
+-- the three lists of months
+abbrev pub month_lists : List MonthList
+month_lists = FlatPeriods ∷ Ratchets ∷ FuelAdjustments ∷ []
+
 -- something is read from the column
 unfoldable pub is_read : Row → ℕ → Bool
 is_read row column =
     is_tier_column row column
-    || (list_any (has_name row column) plain_names || list_any (is_month_column row column) (FlatPeriods ∷ Ratchets ∷ FuelAdjustments ∷ []))
+    || (list_any (has_name row column) plain_names || list_any (is_month_column row column) month_lists)
 
 -- nothing is read from the column though its cell is filled
 abbrev pub is_ignored : Row → ℕ → Bool

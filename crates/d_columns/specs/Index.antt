@@ -1,5 +1,6 @@
 -- Where the columns of a row's tiers are.
-use Rattle.std.specs.Prelude.{◌≡◌, ℕ, ◌+◌, ◌*◌, ◌≤◌, Bool, false, List, Option, None, take, slice_index_or}
+use Rattle.std.specs.Prelude.{◌≡◌, ℕ, ◌+◌, ◌*◌, ◌≤◌, Bool, false, List, Option, None, Some, take, slice_index_or}
+use Rattle.std.specs.Option.{option_or}
 use Rattle.d_columns.specs.declared.names.Structure.{Structure}
 use Rattle.d_columns.specs.declared.names.Part.{Part}
 use Rattle.d_columns.specs.Names.{structure_number, part_number}
@@ -21,6 +22,11 @@ pub record Slots : Type 0 where
 -- the column that is kept for a part of a tier
 abbrev pub column_at : Slots → Structure → ℕ → ℕ → Part → Option ℕ
 column_at slots structure period tier part = slice_index_or slots.columns (part_place structure period tier part) None
+
+-- the column that is kept for a part of a tier: the one that was, else this one
+abbrev pub KeepsFirst : Slots → Slots → Structure → ℕ → ℕ → Part → ℕ → Type 0
+KeepsFirst old new structure period tier part column =
+    column_at new structure period tier part ≡ option_or (column_at old structure period tier part) (Some column)
 
 -- whether a period is marked
 abbrev pub is_marked : Slots → Structure → ℕ → Bool

@@ -3,8 +3,9 @@ use Rattle.std.specs.Prelude.{◌≡◌, ℕ, ◌+◌, ◌*◌, ◌<◌, ◌≤�
 use Rattle.d_table.specs.Table.{cell_in}
 use Rattle.d_columns.specs.declared.names.Structure.{Structure}
 use Rattle.d_columns.specs.declared.names.Part.{Part}
-use Rattle.d_columns.specs.Names.{part_number}
-use Rattle.d_columns.specs.Tiers.{Row, part_column, has_tier, first_filled, is_filled}
+use Rattle.d_columns.specs.declared.reading.TierName.{TierName}
+use Rattle.d_columns.specs.Names.{part_number, IsPastLast}
+use Rattle.d_columns.specs.Tiers.{Row, has_part, part_column, has_tier, first_filled, is_filled}
 
 -- no tier past the last is there; or the least of those that are, and the column of the first of its cells that isn't empty
 abbrev pub IsPastLastFound : Row → Structure → ℕ → Option ℕ → Type 0
@@ -15,6 +16,11 @@ IsPastLastFound row structure period (Some column) =
     × (has_tier row structure period tier ≡ true)
     × ((other : ℕ) → 16 ≤ other → other < tier → has_tier row structure period other ≡ false)
     × (first_filled row structure period tier ≡ Some column)
+
+-- the name is that of a part of a tier past the last of the period
+abbrev pub IsPastPart : Structure → ℕ → TierName → Type 0
+IsPastPart structure period name =
+    (name.structure ≡ structure) × (name.period ≡ period) × (has_part structure name.part ≡ true) × IsPastLast name.tier.now
 
 -- a cell of a tier: its column, the tier's number and the part
 pub record PartCell : Type 0 where

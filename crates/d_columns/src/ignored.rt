@@ -1,6 +1,6 @@
 //! The columns that nothing is read from.
 
-ghost use Rattle.std.specs.Prelude.{◌≡◌, ◌<◌, ◌∷◌, [], length, map};
+ghost use Rattle.std.specs.Prelude.{◌≡◌, ◌<◌, length, map};
 ghost use Rattle.std.specs.List.{list_any, range_with_len};
 ghost use Rattle.d_columns.specs.Ignored as spec;
 ghost use Rattle.d_columns.specs.MonthLists.{month_name};
@@ -39,7 +39,6 @@ impl<'a> Cells<'a> {
     }
 
     /// Whether something is read from a column.
-    #[tactic(auto, unfolding(crate::specs::Ignored::is_read))]
     fn is_read(&self, column: usize) -> bool
         requires { column < length (row_of self.now).header }
         ensures { result ≡ spec.is_read (row_of self.now) column }
@@ -69,7 +68,7 @@ impl<'a> Cells<'a> {
 
     /// Whether a column is one of the three lists of months.
     fn is_in_month_list(&self, column: usize) -> bool
-        ensures { result ≡ list_any (spec.is_month_column (row_of self.now) column) (MonthList.FlatPeriods ∷ MonthList.Ratchets ∷ MonthList.FuelAdjustments ∷ []) }
+        ensures { result ≡ list_any (spec.is_month_column (row_of self.now) column) spec.month_lists }
     {
         if self.is_month_column(column, MonthList::FlatPeriods) {
             return true;

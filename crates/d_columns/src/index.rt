@@ -1,7 +1,6 @@
 //! Where the columns of tiers are.
 
 ghost use Rattle.std.specs.Prelude.{◌≡◌, ◌≢◌, ℕ, ◌+◌, ◌<◌, ◌≤◌, true, false, Some, None, IfOk, IfSome, length, slice_index_or};
-ghost use Rattle.std.specs.Option.{option_or};
 ghost use Rattle.d_table.specs.Table.{row_at};
 ghost use Rattle.d_columns.specs.Tiers.{Row, data_row, part_column, has_tier};
 ghost use Rattle.d_columns.specs.Index as spec;
@@ -106,7 +105,7 @@ impl TierIndex {
     fn set_column(&mut self, structure: Structure, period: u8, tier: u8, part: Part, column: usize)
         requires period { period ≤ 35 }
         requires tier { tier ≤ 15 }
-        ensures here { spec.column_at self.new structure period tier part ≡ option_or (spec.column_at self.old structure period tier part) (Some column) }
+        ensures here { spec.KeepsFirst self.old self.new structure period tier part column }
         ensures others { (place : ℕ) → place ≢ spec.part_place structure period tier part
             → slice_index_or self.new.columns place None ≡ slice_index_or self.old.columns place None }
         ensures marks { self.new.marks ≡ self.old.marks }

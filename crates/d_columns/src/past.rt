@@ -6,7 +6,7 @@ ghost use Rattle.std.specs.Str.Parse.{digits_value};
 ghost use Rattle.d_table.specs.Table.{column_of, cell_in, row_at};
 ghost use Rattle.d_columns.specs.Names.{IsTierNumber, IsPastLast};
 ghost use Rattle.d_columns.specs.Tiers.{data_row, has_part};
-ghost use Rattle.d_columns.specs.Past.{PartCell, IsPastLastFound, IsPastCell, IsFirstPast, order_of, sooner};
+ghost use Rattle.d_columns.specs.Past.{PartCell, IsPastLastFound, IsPastPart, IsPastCell, IsFirstPast, order_of, sooner};
 
 use crate::names::{Part, Structure};
 use crate::reading::{TierName, read_tier_name};
@@ -102,7 +102,7 @@ fn past_cell(
 /// Whether a name is that of a part of a tier past the last of the period.
 fn is_past(name: &TierName<'_>, structure: Structure, period: u8) -> bool
     requires { IsTierNumber name.now.tier.now }
-    ensures { IsTrue result ↔ ((name.now.structure ≡ structure) × (name.now.period ≡ period) × (has_part structure name.now.part ≡ true) × IsPastLast name.now.tier.now) }
+    ensures { IsTrue result ↔ IsPastPart structure period name.now }
 {
     name.structure == structure
         && name.period == period

@@ -10,6 +10,7 @@ use Rattle.d_table.specs.Table.{column_of}
 use Rattle.d_tariff.specs.declared.charge.Charge.{Charge}
 use Rattle.d_tariff.specs.declared.charge.ChargeUnit.{ChargeUnit}
 use Rattle.d_tariff.specs.declared.charge.ChargeUnit.TheVariants.{Day, Month, Year}
+use Rattle.d_urdb.specs.declared.cause.Cause.{Cause}
 use Rattle.d_urdb.specs.declared.fault.Refused.{Refused}
 use Rattle.d_urdb.specs.Numbers.{CellReader, IsCellReader}
 use Rattle.d_urdb.specs.Refusals.{refusal, when}
@@ -19,6 +20,7 @@ use Rattle.d_urdb.specs.Charges.{charge_limit, amount_in, is_charged, unit_at, i
 use Rattle.d_urdb.specs.Checks.{Passes, Refuses}
 use Rattle.d_urdb.proofs.CheckFacts.{when_passes, when_refuses, refusal_same}
 use Rattle.d_urdb.proofs.RefusalOrder.{both_pass, first_refuses, then_refuses}
+use Rattle.d_urdb.specs.declared.cause.Cause.TheVariants as cause
 
 -- the amount in the column of that name, whichever way the cells are read
 abbrev pub IsAmount : Row → List ℕ → ℤ → Type 0
@@ -56,25 +58,25 @@ by_number row name reader = name_refusal reader row charge_limit name ∷ []
 abbrev by_unit : Row → List ℕ → List ℕ → CellReader → List (Option Refused)
 by_unit row name unit_name reader = unit_refusal reader row name unit_name ∷ []
 
-abbrev by_zero : Row → List ℕ → ℕ → CellReader → List (Option Refused)
-by_zero row name number reader = when (is_charged reader row name) (refusal row.header number (column_of name row.header) 0) ∷ []
+abbrev by_zero : Row → List ℕ → Cause → CellReader → List (Option Refused)
+by_zero row name cause_ reader = when (is_charged reader row name) (refusal row.header cause_ (column_of name row.header) 0) ∷ []
 
 -- an amount that has to be 0
-pub zero_unread : (row : Row) (name : List ℕ) (number : ℕ) (refused : Refused) → Refuses (by_number row name) refused
-    → Refuses (λ reader. zero_refusals reader row name number) refused
-zero_unread row name number refused here = first_refuses (by_number row name) (by_zero row name number) refused here
+pub zero_unread : (row : Row) (name : List ℕ) (cause_ : Cause) (refused : Refused) → Refuses (by_number row name) refused
+    → Refuses (λ reader. zero_refusals reader row name cause_) refused
+zero_unread row name cause_ refused here = first_refuses (by_number row name) (by_zero row name cause_) refused here
 
-pub zero_refuses : (row : Row) (name : List ℕ) (number : ℕ) (amount : ℤ) (column : Option ℕ) (refused : Refused) → Passes (by_number row name)
-    → IsAmount row name amount → (amount ≡ pos 0 → ⊥) → refused ≡ refusal row.header number column 0 → column ≡ column_of name row.header
-    → Refuses (λ reader. zero_refusals reader row name number) refused
-zero_refuses row name number amount column refused read is other same at =
-    then_refuses (by_number row name) (by_zero row name number) refused read
-    (λ reader are. when_refuses _ _ refused (is_other reader row name amount (is reader are) other) (refusal_same _ number _ _ 0 0 refused same at refl))
+pub zero_refuses : (row : Row) (name : List ℕ) (cause_ : Cause) (amount : ℤ) (column : Option ℕ) (refused : Refused) → Passes (by_number row name)
+    → IsAmount row name amount → (amount ≡ pos 0 → ⊥) → refused ≡ refusal row.header cause_ column 0 → column ≡ column_of name row.header
+    → Refuses (λ reader. zero_refusals reader row name cause_) refused
+zero_refuses row name cause_ amount column refused read is other same at =
+    then_refuses (by_number row name) (by_zero row name cause_) refused read
+    (λ reader are. when_refuses _ _ refused (is_other reader row name amount (is reader are) other) (refusal_same _ cause_ _ _ 0 0 refused same at refl))
 
-pub zero_passes : (row : Row) (name : List ℕ) (number : ℕ) (amount : ℤ) → Passes (by_number row name) → IsAmount row name amount → amount ≡ pos 0
-    → Passes (λ reader. zero_refusals reader row name number)
-zero_passes row name number amount read is zero =
-    both_pass (by_number row name) (by_zero row name number) read
+pub zero_passes : (row : Row) (name : List ℕ) (cause_ : Cause) (amount : ℤ) → Passes (by_number row name) → IsAmount row name amount → amount ≡ pos 0
+    → Passes (λ reader. zero_refusals reader row name cause_)
+zero_passes row name cause_ amount read is zero =
+    both_pass (by_number row name) (by_zero row name cause_) read
     (λ reader are. when_passes _ _ (is_zero reader row name amount (is reader are) zero))
 
 -- a charge
@@ -98,12 +100,12 @@ charge_passes row name unit_name unit read known =
     known_unit false = refl
 
 pub charge_refuses : (row : Row) (name unit_name : List ℕ) (amount : ℤ) (column : Option ℕ) (refused : Refused) → Passes (by_number row name)
-    → IsAmount row name amount → (amount ≡ pos 0 → ⊥) → unit_at row unit_name ≡ None → refused ≡ refusal row.header 20 column 0
+    → IsAmount row name amount → (amount ≡ pos 0 → ⊥) → unit_at row unit_name ≡ None → refused ≡ refusal row.header cause.ChargeUnit column 0
     → column ≡ column_of unit_name row.header → Refuses (λ reader. charge_refusals reader row name unit_name) refused
 charge_refuses row name unit_name amount column refused read is other none same at =
     then_refuses (by_number row name) (by_unit row name unit_name) refused read
     (λ reader are. when_refuses _ _ refused (rw (is_other reader row name amount (is reader are) other, none) refl)
-    (refusal_same _ 20 _ _ 0 0 refused same at refl))
+    (refusal_same _ cause.ChargeUnit _ _ 0 0 refused same at refl))
 
 -- what a charge tells of its amount and its unit
 pub tells_none : (reader : CellReader) (row : Row) (name unit_name : List ℕ) (charge : Charge) → charge ≡ charge_of reader row name unit_name
@@ -171,14 +173,14 @@ minimum_passes row charge read is other by_month =
     when_passes _ _ (rw (charged, not_yearly (unit_at row minimum_unit_name) (λ year. by_month (unit ∙ year))) refl))
 
 pub minimum_refuses : (row : Row) (charge : Charge) (column : Option ℕ) (refused : Refused) → Passes (by_charge row) → IsMinimumCharge row charge
-    → (charge.amount ≡ pos 0 → ⊥) → charge.unit ≡ Year → refused ≡ refusal row.header 18 column 0 → column ≡ column_of minimum_unit_name row.header
+    → (charge.amount ≡ pos 0 → ⊥) → charge.unit ≡ Year → refused ≡ refusal row.header cause.AnnualMinimum column 0 → column ≡ column_of minimum_unit_name row.header
     → Refuses (λ reader. minimum_refusals reader row) refused
 unfolding minimum_refusals
 minimum_refuses row charge column refused read is other year same at =
     then_refuses (by_charge row) (by_year row) refused read (λ reader are.
     let charged = tells_some reader row minimum_name minimum_unit_name charge (is reader are) other in
     let unit = tells_unit reader row minimum_name minimum_unit_name charge (is reader are) charged in
-    when_refuses _ _ refused (rw (charged, is_yearly (unit_at row minimum_unit_name) (sym unit ∙ year)) refl) (refusal_same _ 18 _ _ 0 0 refused same at refl))
+    when_refuses _ _ refused (rw (charged, is_yearly (unit_at row minimum_unit_name) (sym unit ∙ year)) refl) (refusal_same _ cause.AnnualMinimum _ _ 0 0 refused same at refl))
 
 -- the minimum's value
 pub minimum_nothing : (reader : CellReader) (row : Row) (charge : Charge) → charge ≡ charge_of reader row minimum_name minimum_unit_name

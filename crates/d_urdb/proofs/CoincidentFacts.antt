@@ -18,6 +18,7 @@ use Rattle.d_urdb.specs.Periods.{part_price, price_refusal}
 use Rattle.d_urdb.specs.Refusals.{each, refusal}
 use Rattle.d_columns.specs.Tiers.{Row, part_column}
 use Rattle.d_urdb.proofs.CheckFacts.{when_passes, when_refuses, refusal_same}
+use Rattle.d_urdb.specs.declared.cause.Cause.TheVariants as cause
 
 -- the refusals of a price that can't be read, and of one that isn't 0
 abbrev pub by_number : Row → ℕ → ℕ → Part → CellReader → List (Option Refused)
@@ -52,7 +53,7 @@ price_passes row period tier part units price is same within zero reader are =
     when_passes _ _ (ap not ((Decides-int_eq (part_price reader row Coincident period tier part) (pos 0)).1 none))
 
 pub price_refuses : (row : Row) (period tier : ℕ) (part : Part) (units price : ℤ) (column : Option ℕ) (refused : Refused)
-    → IsPrice row period tier part price → units ≡ price → (of_z w128 units ≡ 0 → ⊥) → refused ≡ refusal row.header 16 column 0
+    → IsPrice row period tier part price → units ≡ price → (of_z w128 units ≡ 0 → ⊥) → refused ≡ refusal row.header cause.Coincident column 0
     → column ≡ part_column row Coincident period tier part → Refuses (by_price row period tier part) refused
 price_refuses row period tier part units price column refused is same other refusal_is at reader are =
     let here = part_price reader row Coincident period tier part in
@@ -60,4 +61,4 @@ price_refuses row period tier part units price column refused is same other refu
       | inl zero ↦ absurd (other (ap (of_z w128) (same ∙ is reader are ∙ (Decides-int_eq here (pos 0)).0 zero)))
       | inr differs ↦ differs
     ] in
-    when_refuses _ _ refused (ap not differs) (refusal_same _ 16 _ _ 0 0 refused refusal_is at refl)
+    when_refuses _ _ refused (ap not differs) (refusal_same _ cause.Coincident _ _ 0 0 refused refusal_is at refl)

@@ -25,6 +25,7 @@ use Rattle.d_urdb.specs.Checks.{Passes, Refuses}
 use Rattle.d_urdb.proofs.HourFacts.{by_grid}
 use Rattle.d_urdb.proofs.OneReader.{one_reader}
 use Rattle.d_urdb.proofs.RefusalOrder.{both_pass, first_refuses, then_refuses}
+use Rattle.d_urdb.specs.declared.cause.Cause.TheVariants as cause
 
 -- a unit that is accepted or not
 pub unit_passes : (row : Row) (name cell : List ℕ) (accepted : Bool) → cell ≡ named_cell row name → accepted ≡ is_kw cell → accepted ≡ true
@@ -33,7 +34,7 @@ unfolding first_of
 unit_passes row name cell accepted here is holds = let test : is_kw (named_cell row name) ≡ true = ap is_kw (sym here) ∙ sym is ∙ holds in rw test refl
 
 pub unit_refuses : (row : Row) (name cell : List ℕ) (accepted : Bool) (refused : Refused) → cell ≡ named_cell row name → accepted ≡ is_kw cell → accepted ≡ false
-    → refusal row.header 12 (column_of name row.header) 0 ≡ refused → first_of (demand_unit_refusal row name ∷ []) ≡ Some refused
+    → refusal row.header cause.DemandUnit (column_of name row.header) 0 ≡ refused → first_of (demand_unit_refusal row name ∷ []) ≡ Some refused
 unfolding first_of
 unit_refuses row name cell accepted refused here is fails same =
     let test : is_kw (named_cell row name) ≡ false = ap is_kw (sym here) ∙ sym is ∙ fails in rw test (ap (λ r. Some r) same)

@@ -10,6 +10,7 @@ use Rattle.d_urdb.specs.Refusals.{first_of, each, refusal}
 use Rattle.d_columns.specs.Tiers.{Row}
 use Rattle.d_urdb.proofs.MonthLoops.{AreFirst, all_twelve}
 use Rattle.d_urdb.proofs.RefusalOrder.{first_refuses, then_checks}
+use Rattle.d_urdb.specs.declared.cause.Cause.TheVariants as cause
 
 -- a period that is read or not
 pub flat_passes : (reader : CellReader) (row : Row) (month period : ℕ) → period_in (item_cell reader row FlatPeriods month) ≡ Some period
@@ -22,7 +23,7 @@ pub flat_value : (reader : CellReader) (row : Row) (month period : ℕ) → peri
 flat_value reader row month period is = rw is refl
 
 pub flat_refuses : (reader : CellReader) (row : Row) (month : ℕ) (refused : Refused) → period_in (item_cell reader row FlatPeriods month) ≡ None
-    → refusal row.header 5 (item_column row FlatPeriods month) 0 ≡ refused → first_of (month_refusal reader row month ∷ []) ≡ Some refused
+    → refusal row.header cause.Grid (item_column row FlatPeriods month) 0 ≡ refused → first_of (month_refusal reader row month ∷ []) ≡ Some refused
 unfolding first_of
 flat_refuses reader row month refused is same = rw is (ap (λ r. Some r) same)
 

@@ -14,20 +14,21 @@ use Rattle.d_urdb.specs.Refusals.{first_of, each, refusal}
 use Rattle.d_columns.specs.Tiers.{Row}
 use Rattle.d_urdb.proofs.CheckFacts.{when_passes, when_refuses}
 use Rattle.d_urdb.proofs.RefusalOrder.{first_refuses, then_refuses, then_checks}
+use Rattle.d_urdb.specs.declared.cause.Cause.TheVariants as cause
 
 -- a month's number that is 0 or not
 pub fuel_passes : (reader : CellReader) (row : Row) (month : ℕ) (number : ℤ) → number ≡ item_number reader row FuelAdjustments price_limit month
     → not (int_eq number (pos 0)) ≡ false → first_of (fuel_refusal reader row month ∷ []) ≡ None
 fuel_passes reader row month number same fails =
     when_passes (not (int_eq (item_number reader row FuelAdjustments price_limit month) (pos 0)))
-    (refusal row.header 19 (item_column row FuelAdjustments month) 0) (ap (λ n. not (int_eq n (pos 0))) (sym same) ∙ fails)
+    (refusal row.header cause.FuelAdjustment (item_column row FuelAdjustments month) 0) (ap (λ n. not (int_eq n (pos 0))) (sym same) ∙ fails)
 
 pub fuel_refuses : (reader : CellReader) (row : Row) (month : ℕ) (number : ℤ) (refused : Refused)
     → number ≡ item_number reader row FuelAdjustments price_limit month → not (int_eq number (pos 0)) ≡ true
-    → refusal row.header 19 (item_column row FuelAdjustments month) 0 ≡ refused → first_of (fuel_refusal reader row month ∷ []) ≡ Some refused
+    → refusal row.header cause.FuelAdjustment (item_column row FuelAdjustments month) 0 ≡ refused → first_of (fuel_refusal reader row month ∷ []) ≡ Some refused
 fuel_refuses reader row month number refused same holds is =
     when_refuses (not (int_eq (item_number reader row FuelAdjustments price_limit month) (pos 0)))
-    (refusal row.header 19 (item_column row FuelAdjustments month) 0) refused (ap (λ n. not (int_eq n (pos 0))) (sym same) ∙ holds) is
+    (refusal row.header cause.FuelAdjustment (item_column row FuelAdjustments month) 0) refused (ap (λ n. not (int_eq n (pos 0))) (sym same) ∙ holds) is
 
 -- the refusals by what they are of
 abbrev pub by_list : Row → CellReader → List (Option Refused)

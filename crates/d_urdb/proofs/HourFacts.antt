@@ -16,6 +16,7 @@ use Rattle.d_urdb.specs.Energy.{HasPeriodTiers}
 use Rattle.d_urdb.proofs.ReadOnce.{hours_once}
 use Rattle.d_urdb.proofs.OneReader.{one_reader}
 use Rattle.d_urdb.proofs.RefusalOrder.{each_none, both_pass, first_refuses, then_refuses}
+use Rattle.d_urdb.specs.declared.cause.Cause.TheVariants as cause
 
 -- an empty cell
 pub blank : (cell : List ℕ) → true ≡ (length cell == 0) → cell ≡ []
@@ -45,7 +46,7 @@ pub grid_value : (row : Row) (name : List ℕ) (rows : List (List ℕ)) (reader 
 grid_value row name rows reader is = rw is refl
 
 pub grid_refuses : (row : Row) (name : List ℕ) (place : ℕ) (refused : Refused) (reader : CellReader) → reader.hours (named_cell row name) ≡ Err place
-    → refusal row.header 5 (column_of name row.header) place ≡ refused → first_of (grid_refusal reader row name ∷ []) ≡ Some refused
+    → refusal row.header cause.Grid (column_of name row.header) place ≡ refused → first_of (grid_refusal reader row name ∷ []) ≡ Some refused
 unfolding first_of
 grid_refuses row name place refused reader is same = rw is (ap (λ r. Some r) same)
 
@@ -61,7 +62,7 @@ period_there : (row : Row) (weekday weekend : List (List ℕ)) (period : ℕ) �
 unfolding missing_refusals
 period_there row weekday weekend period passes within occurs =
     let list : ℕ → List (Option Refused) = λ period. missing_refusal row weekday weekend period ∷ [] in
-    tier_there (occurs_in period weekday || occurs_in period weekend) (has_tier row Energy period 0) (refusal row.header 6 None period)
+    tier_there (occurs_in period weekday || occurs_in period weekend) (has_tier row Energy period 0) (refusal row.header cause.EnergyMissing None period)
     (each_none 36 period list (omega (arith, within)) (passes one_reader.reader one_reader.is_reader)) occurs
 
 pub weekday_there : (row : Row) (weekday weekend : List (List ℕ)) → Passes (λ reader. missing_refusals row weekday weekend) → HasPeriodTiers row weekday

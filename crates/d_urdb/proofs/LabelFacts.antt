@@ -9,6 +9,7 @@ use Rattle.d_urdb.specs.declared.rule.RuleChoice.{RuleChoice}
 use Rattle.d_urdb.specs.Numbers.{CellReader}
 use Rattle.d_urdb.specs.Refusals.{refusal}
 use Rattle.d_urdb.specs.Record.{label_name, one_row_outcome, column_outcome, record_outcome}
+use Rattle.d_urdb.specs.declared.cause.Cause.TheVariants as cause
 
 -- of the first data rows, so many of them, none has the label in this column, or this one alone
 abbrev pub IsOnly : List (List (List ℕ)) → List ℕ → ℕ → ℕ → Option ℕ → Type 0
@@ -62,7 +63,7 @@ pub second_refused : (rows : List (List (List ℕ))) (label : List ℕ) (column 
     → is_some found ≡ true → count + 1 < length rows
     → has_value (Some column) label (row_at rows (suc count)) ≡ true → IsOnly rows label column count found
     → column_of label_name (row_at rows 0) ≡ Some column
-    → record_outcome reader rows label rule ≡ Err (refusal (row_at rows 0) 2 None 0)
+    → record_outcome reader rows label rule ≡ Err (refusal (row_at rows 0) cause.LabelTwice None 0)
 second_refused rows label column count None reader rule some within here only named = let none : false ≡ true = some in absurd cc
 second_refused rows label column count (Some row) reader rule some within here only named =
     let test = has_value (Some column) label in

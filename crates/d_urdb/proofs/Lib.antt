@@ -26,3 +26,4 @@ pub mod RatchetFacts
 pub mod FuelFacts
 pub mod EmptyPeriod
 pub mod KeptColumns
+pub mod PeriodLaw

@@ -16,6 +16,7 @@ use Rattle.d_urdb.specs.Refusals.{first_of, refusal, detail_of}
 use Rattle.d_columns.specs.Tiers.{Row, named_cell, is_filled}
 use Rattle.d_urdb.proofs.HourFacts.{blank}
 use Rattle.d_urdb.proofs.ReadOnce.{spans_once}
+use Rattle.d_urdb.specs.declared.cause.Cause.TheVariants as cause
 
 -- whether a cell is filled, by its length
 pub filled_is : (cell : List ℕ) → false ≡ (length cell == 0) → is_filled cell ≡ true
@@ -50,7 +51,7 @@ unfolding first_of
 listed_passes reader row list spans listed is = rw (listed, is) refl
 
 pub listed_refuses : (reader : CellReader) (row : Row) (list : MonthList) (place : ℕ) (refused : Refused) → is_listed row list ≡ true
-    → reader.spans (named_cell row (list_name list)) ≡ Err place → refusal row.header 5 (column_of (list_name list) row.header) place ≡ refused
+    → reader.spans (named_cell row (list_name list)) ≡ Err place → refusal row.header cause.Grid (column_of (list_name list) row.header) place ≡ refused
     → first_of (list_refusal reader row list ∷ []) ≡ Some refused
 unfolding first_of
 listed_refuses reader row list place refused listed is same = rw (listed, is) (ap (λ r. Some r) same)
@@ -74,7 +75,7 @@ item_passes reader row list limit month value is = rw is refl
 
 pub item_refuses : (reader : CellReader) (row : Row) (list : MonthList) (limit month : ℕ) (fault : DecimalFault) (refused : Refused)
     → reader.number limit (item_cell reader row list month) ≡ Err fault
-    → refusal row.header 4 (item_column row list month) (detail_of fault) ≡ refused
+    → refusal row.header cause.Decimal (item_column row list month) (detail_of fault) ≡ refused
     → first_of (item_refusal reader row list limit month ∷ []) ≡ Some refused
 unfolding first_of
 item_refuses reader row list limit month fault refused is same = rw is (ap (λ r. Some r) same)

@@ -10,6 +10,7 @@ use Rattle.d_urdb.specs.Numbers.{CellReader}
 use Rattle.d_urdb.specs.Refusals.{first_of, refusal, detail_of}
 use Rattle.d_columns.specs.Tiers.{Row, named_cell}
 use Rattle.d_urdb.specs.NamedNumbers.{name_refusal, named_number}
+use Rattle.d_urdb.specs.declared.cause.Cause.TheVariants as cause
 
 -- a number that is read or not
 pub name_passes : (reader : CellReader) (row : Row) (limit : ℕ) (name : List ℕ) (value : ℤ) → reader.number limit (named_cell row name) ≡ Ok value
@@ -22,7 +23,7 @@ pub name_value : (reader : CellReader) (row : Row) (limit : ℕ) (name : List �
 name_value reader row limit name value is = rw is refl
 
 pub name_refuses : (reader : CellReader) (row : Row) (limit : ℕ) (name : List ℕ) (fault : DecimalFault) (refused : Refused)
-    → reader.number limit (named_cell row name) ≡ Err fault → refusal row.header 4 (column_of name row.header) (detail_of fault) ≡ refused
+    → reader.number limit (named_cell row name) ≡ Err fault → refusal row.header cause.Decimal (column_of name row.header) (detail_of fault) ≡ refused
     → first_of (name_refusal reader row limit name ∷ []) ≡ Some refused
 unfolding first_of
 name_refuses reader row limit name fault refused is same = rw is (ap (λ r. Some r) same)

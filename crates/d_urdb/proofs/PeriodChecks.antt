@@ -15,6 +15,7 @@ use Rattle.d_urdb.specs.Checks.{Passes, Refuses, ChecksOrNot, IsHoleCheck, tier_
 use Rattle.d_columns.proofs.HoleLaws.{hole_once}
 use Rattle.d_urdb.proofs.OneReader.{one_reader}
 use Rattle.d_urdb.proofs.RefusalOrder.{both_pass, first_refuses, then_refuses, front_none, each_none}
+use Rattle.d_urdb.specs.declared.cause.Cause.TheVariants as cause
 
 -- the refusals of a period by one of the rules
 abbrev pub by_rule : Row → Structure → ℕ → TierRule → CellReader → List (Option Refused)
@@ -47,7 +48,7 @@ holes_pass row structure period none reader are =
     rw found refl
 
 pub hole_refuses : (row : Row) (structure : Structure) (period tier : ℕ) (refused : Refused) → IsLeastHole row structure period (Some tier)
-    → refused ≡ refusal row.header 7 (first_filled row structure period tier) 0 → Refuses (by_hole row structure period) refused
+    → refused ≡ refusal row.header cause.TierHole (first_filled row structure period tier) 0 → Refuses (by_hole row structure period) refused
 unfolding first_of
 hole_refuses row structure period tier refused least is reader are =
     let found : reader.hole row structure period ≡ Some tier = hole_once row structure period (reader.hole row structure period) (Some tier) (are.hole_is row structure period) least in
@@ -158,11 +159,11 @@ last_told : (row : Row) (structure : Structure) (period tier : ℕ) → has_tier
 last_told row structure period tier there = rw there refl
 
 hole_none : (row : Row) (structure : Structure) (period : ℕ) (hole : Option ℕ) → IsLeastHole row structure period hole
-    → first_of (option_map (λ tier. refusal row.header 7 (first_filled row structure period tier) 0) hole ∷ []) ≡ None → IsLeastHole row structure period None
+    → first_of (option_map (λ tier. refusal row.header cause.TierHole (first_filled row structure period tier) 0) hole ∷ []) ≡ None → IsLeastHole row structure period None
 unfolding first_of
 hole_none row structure period None is none = is
 hole_none row structure period (Some tier) is none =
-    absurd (let e : Some (refusal row.header 7 (first_filled row structure period tier) 0) ≡ None = none in cc)
+    absurd (let e : Some (refusal row.header cause.TierHole (first_filled row structure period tier) 0) ≡ None = none in cc)
 
 pub period_rises : (row : Row) (structure : Structure) (period : ℕ) → Passes (λ reader. period_refusals reader row structure period)
     → HasRisingEnds row structure period

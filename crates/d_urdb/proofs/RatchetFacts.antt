@@ -15,33 +15,34 @@ use Rattle.d_columns.specs.Tiers.{Row, is_filled}
 use Rattle.d_urdb.proofs.CheckFacts.{when_passes, when_refuses}
 use Rattle.d_urdb.proofs.MonthLoops.{AreFirst, all_twelve}
 use Rattle.d_urdb.proofs.RefusalOrder.{both_pass, first_refuses, then_refuses}
+use Rattle.d_urdb.specs.declared.cause.Cause.TheVariants as cause
 
 -- a month's number that is below 0 or not
 pub fraction_passes : (reader : CellReader) (row : Row) (month : ℕ) (number : ℤ) → number ≡ month_number reader row month
     → int_lt number (pos 0) ≡ false → first_of (fraction_refusal reader row month ∷ []) ≡ None
 fraction_passes reader row month number same fails =
-    when_passes (int_lt (month_number reader row month) (pos 0)) (refusal row.header 22 (item_column row Ratchets month) 0)
+    when_passes (int_lt (month_number reader row month) (pos 0)) (refusal row.header cause.Fraction (item_column row Ratchets month) 0)
     (ap (λ n. int_lt n (pos 0)) (sym same) ∙ fails)
 
 pub fraction_refuses : (reader : CellReader) (row : Row) (month : ℕ) (number : ℤ) (refused : Refused) → number ≡ month_number reader row month
-    → int_lt number (pos 0) ≡ true → refusal row.header 22 (item_column row Ratchets month) 0 ≡ refused
+    → int_lt number (pos 0) ≡ true → refusal row.header cause.Fraction (item_column row Ratchets month) 0 ≡ refused
     → first_of (fraction_refusal reader row month ∷ []) ≡ Some refused
 fraction_refuses reader row month number refused same holds is =
-    when_refuses (int_lt (month_number reader row month) (pos 0)) (refusal row.header 22 (item_column row Ratchets month) 0) refused
+    when_refuses (int_lt (month_number reader row month) (pos 0)) (refusal row.header cause.Fraction (item_column row Ratchets month) 0) refused
     (ap (λ n. int_lt n (pos 0)) (sym same) ∙ holds) is
 
 -- the number of all months that is below 0 or not
 pub lookback_passes : (reader : CellReader) (row : Row) (number : ℤ) → number ≡ named_number reader row fraction_limit lookback_name
     → int_lt number (pos 0) ≡ false → first_of (lookback_refusal reader row ∷ []) ≡ None
 lookback_passes reader row number same fails =
-    when_passes (int_lt (named_number reader row fraction_limit lookback_name) (pos 0)) (refusal row.header 22 (column_of lookback_name row.header) 0)
+    when_passes (int_lt (named_number reader row fraction_limit lookback_name) (pos 0)) (refusal row.header cause.Fraction (column_of lookback_name row.header) 0)
     (ap (λ n. int_lt n (pos 0)) (sym same) ∙ fails)
 
 pub lookback_refuses : (reader : CellReader) (row : Row) (number : ℤ) (refused : Refused) → number ≡ named_number reader row fraction_limit lookback_name
-    → int_lt number (pos 0) ≡ true → refusal row.header 22 (column_of lookback_name row.header) 0 ≡ refused
+    → int_lt number (pos 0) ≡ true → refusal row.header cause.Fraction (column_of lookback_name row.header) 0 ≡ refused
     → first_of (lookback_refusal reader row ∷ []) ≡ Some refused
 lookback_refuses reader row number refused same holds is =
-    when_refuses (int_lt (named_number reader row fraction_limit lookback_name) (pos 0)) (refusal row.header 22 (column_of lookback_name row.header) 0) refused
+    when_refuses (int_lt (named_number reader row fraction_limit lookback_name) (pos 0)) (refusal row.header cause.Fraction (column_of lookback_name row.header) 0) refused
     (ap (λ n. int_lt n (pos 0)) (sym same) ∙ holds) is
 
 -- the fraction of a month that has its own, and of one that has none

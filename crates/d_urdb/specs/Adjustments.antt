@@ -15,6 +15,7 @@ use Rattle.d_urdb.specs.Numbers.{CellReader}
 use Rattle.d_urdb.specs.Periods.{price_limit, part_price, price_in, price_refusal}
 use Rattle.d_urdb.specs.Refusals.{each, refusal, when}
 use Rattle.d_columns.specs.Tiers.{Row, part_column}
+use Rattle.d_urdb.specs.declared.cause.Cause.TheVariants as cause
 
 -- for each of the periods 0 to 35, and of their tiers 0 to 15
 abbrev pub each_tier : (ℕ → ℕ → List (Option Refused)) → List (Option Refused)
@@ -29,7 +30,7 @@ coincident_number_refusals reader row period tier =
 abbrev pub part_refusal : CellReader → Row → ℕ → ℕ → Part → Option Refused
 part_refusal reader row period tier part =
     when (not (int_eq (part_price reader row Coincident period tier part) (pos 0)))
-    (refusal row.header 16 (part_column row Coincident period tier part) 0)
+    (refusal row.header cause.Coincident (part_column row Coincident period tier part) 0)
 
 abbrev pub coincident_price_refusals : CellReader → Row → ℕ → ℕ → List (Option Refused)
 coincident_price_refusals reader row period tier =
@@ -40,25 +41,15 @@ unfoldable pub coincident_refusals : CellReader → Row → List (Option Refused
 coincident_refusals reader row =
     each_tier (coincident_number_refusals reader row) ++ each_tier (coincident_price_refusals reader row)
 
--- the column of the charge for reactive power
+-- the column of the charge for reactive power, which has to be 0
 abbrev pub reactive_name : List ℕ
 reactive_name = codes "demandreactivepowercharge"
-
--- 17: reactive power is charged
-abbrev pub reactive_refusal : CellReader → Row → Option Refused
-reactive_refusal reader row =
-    when (not (int_eq (named_number reader row charge_limit reactive_name) (pos 0)))
-    (refusal row.header 17 (column_of reactive_name row.header) 0)
-
--- all refusals of reactive power, in order
-unfoldable pub reactive_refusals : CellReader → Row → List (Option Refused)
-reactive_refusals reader row = name_refusal reader row charge_limit reactive_name ∷ reactive_refusal reader row ∷ []
 
 -- 19: something is added for fuel
 abbrev pub fuel_refusal : CellReader → Row → ℕ → Option Refused
 fuel_refusal reader row month =
     when (not (int_eq (price_in reader (item_cell reader row FuelAdjustments month)) (pos 0)))
-    (refusal row.header 19 (item_column row FuelAdjustments month) 0)
+    (refusal row.header cause.FuelAdjustment (item_column row FuelAdjustments month) 0)
 
 -- all refusals of fuel adjustments, in order
 unfoldable pub fuel_refusals : CellReader → Row → List (Option Refused)

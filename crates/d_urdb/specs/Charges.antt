@@ -6,11 +6,13 @@ use Rattle.d_table.specs.Table.{column_of}
 use Rattle.d_tariff.specs.declared.charge.Charge.{Charge}
 use Rattle.d_tariff.specs.declared.charge.ChargeUnit.{ChargeUnit}
 use Rattle.d_tariff.specs.declared.charge.ChargeUnit.TheVariants.{Day, Month, Year}
+use Rattle.d_urdb.specs.declared.cause.Cause.{Cause}
 use Rattle.d_urdb.specs.declared.fault.Refused.{Refused}
 use Rattle.d_urdb.specs.NamedNumbers.{name_refusal, named_number}
 use Rattle.d_urdb.specs.Numbers.{CellReader}
 use Rattle.d_urdb.specs.Refusals.{refusal, when}
 use Rattle.d_columns.specs.Tiers.{Row, named_cell, is_filled}
+use Rattle.d_urdb.specs.declared.cause.Cause.TheVariants as cause
 
 -- the most USD that a charge may be in size
 abbrev pub charge_limit : ℕ
@@ -61,7 +63,7 @@ unit_at row unit_name = unit_in (named_cell row unit_name)
 -- 20: the unit of a charge other than 0 is none
 abbrev pub unit_refusal : CellReader → Row → List ℕ → List ℕ → Option Refused
 unit_refusal reader row name unit_name =
-    when (is_charged reader row name && not (is_some (unit_at row unit_name))) (refusal row.header 20 (column_of unit_name row.header) 0)
+    when (is_charged reader row name && not (is_some (unit_at row unit_name))) (refusal row.header cause.ChargeUnit (column_of unit_name row.header) 0)
 
 -- the amount and the unit of a charge
 abbrev pub charge_refusals : CellReader → Row → List ℕ → List ℕ → List (Option Refused)
@@ -72,26 +74,19 @@ charge_refusals reader row name unit_name =
 abbrev pub yearly_refusal : CellReader → Row → Option Refused
 yearly_refusal reader row =
     when (is_charged reader row minimum_name && is_year (unit_at row minimum_unit_name))
-    (refusal row.header 18 (column_of minimum_unit_name row.header) 0)
+    (refusal row.header cause.AnnualMinimum (column_of minimum_unit_name row.header) 0)
 
-abbrev pub annual_refusal : CellReader → Row → Option Refused
-annual_refusal reader row = when (is_charged reader row annual_name) (refusal row.header 18 (column_of annual_name row.header) 0)
-
--- an amount that has to be 0: it can't be read, or is another, which is refused by this number
-abbrev pub zero_refusals : CellReader → Row → List ℕ → ℕ → List (Option Refused)
-zero_refusals reader row name number =
+-- an amount that has to be 0: it can't be read, or is another, which is refused for this cause
+abbrev pub zero_refusals : CellReader → Row → List ℕ → Cause → List (Option Refused)
+zero_refusals reader row name cause_ =
     name_refusal reader row charge_limit name
-    ∷ when (is_charged reader row name) (refusal row.header number (column_of name row.header) 0)
+    ∷ when (is_charged reader row name) (refusal row.header cause_ (column_of name row.header) 0)
     ∷ []
 
 -- the minimum's refusals, in order
 unfoldable pub minimum_refusals : CellReader → Row → List (Option Refused)
 minimum_refusals reader row =
     charge_refusals reader row minimum_name minimum_unit_name ++ yearly_refusal reader row ∷ []
-
--- those of the yearly minimum
-unfoldable pub annual_refusals : CellReader → Row → List (Option Refused)
-annual_refusals reader row = name_refusal reader row charge_limit annual_name ∷ annual_refusal reader row ∷ []
 
 -- a charge, in units of 10^-21 USD; one of 0 is by the month
 abbrev pub charge_of : CellReader → Row → List ℕ → List ℕ → Charge

@@ -10,6 +10,7 @@ use Rattle.d_urdb.specs.Numbers.{CellReader, IsCellReader}
 use Rattle.d_urdb.specs.Refusals.{first_of, refusal}
 use Rattle.d_columns.specs.Tiers.{Row, IsLeastHole, first_filled}
 use Rattle.d_urdb.specs.Periods.{number_refusals, unit_refusal, order_refusal, sell_refusal, fall_refusal}
+use Rattle.d_urdb.specs.declared.cause.Cause.TheVariants as cause
 
 -- none of these refusals comes
 abbrev pub Passes : (CellReader → List (Option Refused)) → Type 0
@@ -34,7 +35,7 @@ ChecksOrNot refusals (Err fault.Memory) = ⊤
 abbrev pub IsHoleCheck : Row → Structure → ℕ → Result ⊤ RecordFault → Type 0
 IsHoleCheck row structure period (Ok value) = IsLeastHole row structure period None
 IsHoleCheck row structure period (Err (fault.Refused refused)) =
-    (tier : ℕ) × IsLeastHole row structure period (Some tier) × (refused ≡ refusal row.header 7 (first_filled row structure period tier) 0)
+    (tier : ℕ) × IsLeastHole row structure period (Some tier) × (refused ≡ refusal row.header cause.TierHole (first_filled row structure period tier) 0)
 IsHoleCheck row structure period (Err fault.Memory) = ⊤
 
 -- the refusals of a tier by one of the rules

@@ -12,6 +12,7 @@ use Rattle.d_urdb.specs.Numbers.{CellReader, IsCellReader}
 use Rattle.d_urdb.specs.Periods.{tiers_to}
 use Rattle.d_urdb.specs.Refusals.{refusal, when}
 use Rattle.d_columns.specs.Tiers.{Row, named_cell, has_tier, is_filled}
+use Rattle.d_urdb.specs.declared.cause.Cause.TheVariants as cause
 
 -- the columns of the hours, and of the units
 abbrev pub demand_weekday_name : List ℕ
@@ -32,7 +33,7 @@ is_kw cell = not (is_filled cell) || bytes_eq (str_to_ascii_lowercase cell) (cod
 
 -- 12: the unit of demand
 abbrev pub demand_unit_refusal : Row → List ℕ → Option Refused
-demand_unit_refusal row name = when (not (is_kw (named_cell row name))) (refusal row.header 12 (column_of name row.header) 0)
+demand_unit_refusal row name = when (not (is_kw (named_cell row name))) (refusal row.header cause.DemandUnit (column_of name row.header) 0)
 
 -- all refusals of the hours, in order; an hour in a period without a tier isn't refused
 abbrev pub demand_hours_refusals : CellReader → Row → List (Option Refused)

@@ -33,3 +33,7 @@ item_number reader row list limit month = number_or_0 (reader.number limit (item
 -- these are the numbers of the twelve items
 abbrev pub AreNumbersOf : CellReader → Row → MonthList → ℕ → List ℤ → Type 0
 AreNumbersOf reader row list limit numbers = (month : ℕ) → month < 12 → slice_index_or numbers month (pos 0) ≡ item_number reader row list limit month
+
+-- the same, whichever way the cells are read
+abbrev pub AreNumbers : Row → MonthList → ℕ → List ℤ → Type 0
+AreNumbers row list limit numbers = (reader : CellReader) → IsCellReader reader → AreNumbersOf reader row list limit numbers

@@ -1,5 +1,6 @@
 pub mod Numbers
 pub mod Refusals
+pub mod RefusalNames
 pub mod Periods
 pub mod Shown
 pub mod Checks

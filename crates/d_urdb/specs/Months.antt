@@ -11,6 +11,7 @@ use Rattle.d_urdb.specs.Periods.{fault_refusal}
 use Rattle.d_urdb.specs.Refusals.{refusal}
 use Rattle.d_columns.specs.MonthLists.{list_name, month_name, is_listed}
 use Rattle.d_columns.specs.Tiers.{Row, named_cell, is_filled}
+use Rattle.d_urdb.specs.declared.cause.Cause.TheVariants as cause
 
 -- where the items stand in a cell; nowhere where it is no list
 abbrev pub spans_or_none : Result (List Span) ℕ → List Span
@@ -39,7 +40,7 @@ item_column row list month =
 -- 5: the one cell is no list of twelve items; the detail is the place
 abbrev pub split_fault : Row → MonthList → Result (List Span) ℕ → Option Refused
 split_fault row list (Ok spans) = None
-split_fault row list (Err place) = Some (refusal row.header 5 (column_of (list_name list) row.header) place)
+split_fault row list (Err place) = Some (refusal row.header cause.Grid (column_of (list_name list) row.header) place)
 
 abbrev pub list_refusal : CellReader → Row → MonthList → Option Refused
 list_refusal reader row list =

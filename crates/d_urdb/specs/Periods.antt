@@ -16,6 +16,7 @@ use Rattle.d_columns.specs.declared.names.Part.TheVariants.{Max, Unit, Rate, Adj
 use Rattle.d_urdb.specs.Numbers.{CellReader}
 use Rattle.d_urdb.specs.Refusals.{each, refusal, when, detail_of}
 use Rattle.d_columns.specs.Tiers.{Row, has_tier, part_cell, part_column, first_filled, is_filled}
+use Rattle.d_urdb.specs.declared.cause.Cause.TheVariants as cause
 
 -- the most USD per kWh or kW that a cell may say
 abbrev pub price_limit : ℕ
@@ -42,7 +43,7 @@ part_price reader row structure period tier part = price_in reader (part_cell ro
 -- the fault of a cell's number is refused with this column
 abbrev pub fault_refusal : {A : Type 0} → Row → Option ℕ → Result A DecimalFault → Option Refused
 fault_refusal row column (Ok value) = None
-fault_refusal row column (Err fault) = Some (refusal row.header 4 column (detail_of fault))
+fault_refusal row column (Err fault) = Some (refusal row.header cause.Decimal column (detail_of fault))
 
 -- a tier is the last of its period where the next one isn't there
 abbrev pub is_last : Row → Structure → ℕ → ℕ → Bool
@@ -83,7 +84,7 @@ sell_of reader row structure period =
 -- 7: a tier is there without the one before it; the first of its cells that isn't empty is named
 abbrev pub hole_refusal : CellReader → Row → Structure → ℕ → Option Refused
 hole_refusal reader row structure period =
-    option_map (λ tier. refusal row.header 7 (first_filled row structure period tier) 0) (reader.hole row structure period)
+    option_map (λ tier. refusal row.header cause.TierHole (first_filled row structure period tier) 0) (reader.hole row structure period)
 
 -- 4: where a tier ends can't be read, unless it is the last
 abbrev pub end_refusal : CellReader → Row → Structure → ℕ → ℕ → Option Refused
@@ -112,7 +113,7 @@ has_other_unit row structure period tier = has_tier row structure period 1 && no
 -- 9: the unit of a tier
 abbrev pub unit_refusal : Row → Structure → ℕ → ℕ → Option Refused
 unit_refusal row structure period tier =
-    when (has_other_unit row structure period tier) (refusal row.header 9 (part_column row structure period tier Unit) 0)
+    when (has_other_unit row structure period tier) (refusal row.header cause.TierUnit (part_column row structure period tier Unit) 0)
 
 -- a tier other than the last doesn't end above where it begins
 abbrev pub breaks_order : CellReader → Row → Structure → ℕ → ℕ → Bool
@@ -122,7 +123,7 @@ breaks_order reader row structure period tier =
 -- 8: the order of ends
 abbrev pub order_refusal : CellReader → Row → Structure → ℕ → ℕ → Option Refused
 order_refusal reader row structure period tier =
-    when (breaks_order reader row structure period tier) (refusal row.header 8 (part_column row structure period tier Max) 0)
+    when (breaks_order reader row structure period tier) (refusal row.header cause.TierOrder (part_column row structure period tier Max) 0)
 
 -- a sell rate that is given isn't the period's
 abbrev pub has_other_sell : CellReader → Row → Structure → ℕ → ℕ → Bool
@@ -133,15 +134,16 @@ has_other_sell reader row structure period tier =
 -- 10: sell rates differ
 abbrev pub sell_refusal : CellReader → Row → Structure → ℕ → ℕ → Option Refused
 sell_refusal reader row structure period tier =
-    when (has_other_sell reader row structure period tier) (refusal row.header 10 (part_column row structure period tier Sell) 0)
+    when (has_other_sell reader row structure period tier) (refusal row.header cause.SellTiers (part_column row structure period tier Sell) 0)
 
--- what is drawn for demand is never paid for, so no price of demand is below 0 (our own rule)
+-- the structures of which a month's demand is billed
 abbrev pub is_demand : Structure → Bool
 is_demand Energy = false
 is_demand Demand = true
 is_demand FlatDemand = true
 is_demand Coincident = false
 
+-- what is drawn for demand is never paid for, so no price of demand is below 0 (our own rule)
 abbrev pub has_negative_price : CellReader → Row → Structure → ℕ → ℕ → Bool
 has_negative_price reader row structure period tier = is_demand structure && int_lt (price_of reader row structure period tier) (pos 0)
 
@@ -149,7 +151,7 @@ has_negative_price reader row structure period tier = is_demand structure && int
 abbrev pub fall_refusal : CellReader → Row → Structure → ℕ → ℕ → Option Refused
 fall_refusal reader row structure period tier =
     when (has_negative_price reader row structure period tier)
-    (refusal row.header 11 (option_or (part_column row structure period tier Adj) (part_column row structure period tier Rate)) 0)
+    (refusal row.header cause.DemandFalls (option_or (part_column row structure period tier Adj) (part_column row structure period tier Rate)) 0)
 
 -- all refusals of a period, in order
 unfoldable pub period_refusals : CellReader → Row → Structure → ℕ → List (Option Refused)

@@ -11,6 +11,7 @@ use Rattle.d_urdb.specs.Numbers.{CellReader}
 use Rattle.d_urdb.specs.Periods.{number_or_0}
 use Rattle.d_urdb.specs.Refusals.{each, refusal, when}
 use Rattle.d_columns.specs.Tiers.{Row, is_filled}
+use Rattle.d_urdb.specs.declared.cause.Cause.TheVariants as cause
 
 -- the most that a fraction or a percent may be
 abbrev pub fraction_limit : ℕ
@@ -27,11 +28,11 @@ month_number reader row month = number_or_0 (reader.number fraction_limit (item_
 -- 22: a fraction is below 0
 abbrev pub fraction_refusal : CellReader → Row → ℕ → Option Refused
 fraction_refusal reader row month =
-    when (int_lt (month_number reader row month) (pos 0)) (refusal row.header 22 (item_column row Ratchets month) 0)
+    when (int_lt (month_number reader row month) (pos 0)) (refusal row.header cause.Fraction (item_column row Ratchets month) 0)
 
 abbrev pub lookback_refusal : CellReader → Row → Option Refused
 lookback_refusal reader row =
-    when (int_lt (named_number reader row fraction_limit lookback_name) (pos 0)) (refusal row.header 22 (column_of lookback_name row.header) 0)
+    when (int_lt (named_number reader row fraction_limit lookback_name) (pos 0)) (refusal row.header cause.Fraction (column_of lookback_name row.header) 0)
 
 -- all of them can be read
 unfoldable pub fraction_number_refusals : CellReader → Row → List (Option Refused)

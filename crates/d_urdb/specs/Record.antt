@@ -4,12 +4,13 @@ use Rattle.std.specs.Prelude.{◌≡◌, ℕ, Bool, false, not, ◌&&◌, ◌||�
 use Rattle.std.specs.Str.{str_to_ascii_lowercase}
 use Rattle.d_table.specs.Table.{row_at, column_of, has_value}
 use Rattle.d_tariff.specs.Terms.{Terms}
+use Rattle.d_urdb.specs.declared.cause.Cause.{Cause}
 use Rattle.d_urdb.specs.declared.fault.Refused.{Refused}
 use Rattle.d_urdb.specs.declared.rule.RuleChoice.{RuleChoice}
 use Rattle.d_urdb.specs.declared.rule.RuleChoice.TheVariants.{AsRecorded, NetBilling}
 use Rattle.d_columns.specs.declared.names.Structure.TheVariants.{Energy, Demand, FlatDemand}
-use Rattle.d_urdb.specs.Adjustments.{coincident_refusals, reactive_refusals, fuel_refusals}
-use Rattle.d_urdb.specs.Charges.{fixed_name, fixed_unit_name, charge_refusals, minimum_refusals, annual_refusals, fixed_of, minimum_of}
+use Rattle.d_urdb.specs.Adjustments.{coincident_refusals, reactive_name, fuel_refusals}
+use Rattle.d_urdb.specs.Charges.{fixed_name, fixed_unit_name, charge_refusals, minimum_refusals, annual_name, zero_refusals, fixed_of, minimum_of}
 use Rattle.d_urdb.specs.Demand.{demand_unit_name, flat_unit_name, demand_weekday_name, demand_weekend_name, demand_unit_refusal, demand_hours_refusals, demand_periods}
 use Rattle.d_urdb.specs.FlatMonths.{month_refusals, flat_months}
 use Rattle.d_urdb.specs.Hours.{hours_refusals, hours_in, weekday_name, weekend_name}
@@ -19,6 +20,7 @@ use Rattle.d_urdb.specs.Periods.{period_refusals, energy_periods}
 use Rattle.d_urdb.specs.Ratchets.{ratchet_refusals, ratchets}
 use Rattle.d_urdb.specs.Refusals.{first_of, each, refusal, when}
 use Rattle.d_columns.specs.Tiers.{Row, named_cell, is_filled}
+use Rattle.d_urdb.specs.declared.cause.Cause.TheVariants as cause
 
 -- the column of the rule of billing
 abbrev pub rule_name : List ℕ
@@ -34,17 +36,17 @@ is_hourly row NetBilling = false
 is_hourly row AsRecorded = says_rule row (codes "net billing hourly")
 
 -- a refusal that names the column of the rule
-abbrev pub rule_refusal : Row → ℕ → Refused
-rule_refusal row number = refusal row.header number (column_of rule_name row.header) 0
+abbrev pub rule_refusal : Row → Cause → Refused
+rule_refusal row cause_ = refusal row.header cause_ (column_of rule_name row.header) 0
 
 -- 13, 14 and 21: rules that are refused by name, and texts that are no rule; nothing where net billing is chosen in the rule's place
 abbrev pub rule_refusals : Row → RuleChoice → List (Option Refused)
 rule_refusals row NetBilling = []
 rule_refusals row AsRecorded =
-    when (says_rule row (codes "net metering")) (rule_refusal row 13)
-    ∷ when (says_rule row (codes "buy all sell all")) (rule_refusal row 14)
+    when (says_rule row (codes "net metering")) (rule_refusal row cause.NetMetering)
+    ∷ when (says_rule row (codes "buy all sell all")) (rule_refusal row cause.BuyAllSellAll)
     ∷ when (is_filled (named_cell row rule_name) && not (says_rule row (codes "net billing instantaneous") || says_rule row (codes "net billing hourly")))
-    (rule_refusal row 21)
+    (rule_refusal row cause.RuleUnknown)
     ∷ []
 
 -- the refusals of the rule of billing, of the energy periods and of their hours, in order
@@ -63,7 +65,7 @@ flat_section reader row =
 
 -- those of what isn't billed
 abbrev pub adjustment_section : CellReader → Row → List (Option Refused)
-adjustment_section reader row = coincident_refusals reader row ++ (reactive_refusals reader row ++ fuel_refusals reader row)
+adjustment_section reader row = coincident_refusals reader row ++ (zero_refusals reader row reactive_name cause.Reactive ++ fuel_refusals reader row)
 
 -- all refusals of a row, in order
 unfoldable pub row_refusals : CellReader → Row → RuleChoice → List (Option Refused)
@@ -74,7 +76,7 @@ row_refusals reader row rule =
     ++ (ratchet_refusals reader row
     ++ (charge_refusals reader row fixed_name fixed_unit_name
     ++ (minimum_refusals reader row
-    ++ (annual_refusals reader row
+    ++ (zero_refusals reader row annual_name cause.AnnualMinimum
     ++ adjustment_section reader row))))))
 
 -- the terms of a row that isn't refused
@@ -106,9 +108,9 @@ row_outcome reader row rule = refused_or (first_of (row_refusals reader row rule
 
 -- 1 and 2: no row has the label, or several have it
 abbrev pub one_row_outcome : CellReader → List (List ℕ) → RuleChoice → List (List (List ℕ)) → Result Terms Refused
-one_row_outcome reader header rule [] = Err (refusal header 1 None 0)
+one_row_outcome reader header rule [] = Err (refusal header cause.NoLabel None 0)
 one_row_outcome reader header rule (cells ∷ []) = row_outcome reader (record { header = header; cells = cells }) rule
-one_row_outcome reader header rule (cells ∷ others ∷ more) = Err (refusal header 2 None 0)
+one_row_outcome reader header rule (cells ∷ others ∷ more) = Err (refusal header cause.LabelTwice None 0)
 
 -- the column of the label
 abbrev pub label_name : List ℕ
@@ -120,7 +122,7 @@ labelled_rows rows label = filter (has_value (column_of label_name (row_at rows 
 
 -- 3: there is no column of labels
 abbrev pub column_outcome : CellReader → List (List (List ℕ)) → List ℕ → RuleChoice → Option ℕ → Result Terms Refused
-column_outcome reader rows label rule None = Err (refusal (row_at rows 0) 3 None 0)
+column_outcome reader rows label rule None = Err (refusal (row_at rows 0) cause.NoColumn None 0)
 column_outcome reader rows label rule (Some column) = one_row_outcome reader (row_at rows 0) rule (labelled_rows rows label)
 
 -- the terms of the record with this label, or its refusal

@@ -9,6 +9,7 @@ ghost use Rattle.d_urdb.specs.Checks.{Checks};
 ghost use Rattle.d_urdb.specs.Numbers.{Reads};
 ghost use Rattle.d_urdb.specs.Shown.{row_of};
 
+use crate::cause::Cause;
 use crate::fault::Refused;
 use crate::row::Record;
 use d_num::Money;
@@ -38,27 +39,20 @@ impl<'a> Record<'a> {
             return Ok(None);
         }
         if is_year(minimum.unit) {
-            let column = self.position(b"minchargeunits");
-            return Err(self.refusal(18, column, 0));
+            let column = self.cells.position(b"minchargeunits");
+            return Err(self.refusal(Cause::AnnualMinimum, column, 0));
         }
         Ok(Some(minimum))
     }
 
-    /// Tests that there is no minimum of a year's bills.
-    pub(crate) fn check_annual(&self) -> Result<(), Refused>
-        ensures { Checks (λ reader. spec.annual_refusals reader (row_of self.now)) result }
-    {
-        self.check_zero(b"annualmincharge", 18)
-    }
-
-    /// Tests that the amount in the column of that name is 0; one that isn't is refused by this number. The name is in small letters.
-    pub(crate) fn check_zero(&self, name: &[u8], number: u8) -> Result<(), Refused>
-        ensures { Checks (λ reader. spec.zero_refusals reader (row_of self.now) name.now number) result }
+    /// Tests that the amount in the column of that name is 0; one that isn't is refused for this cause. The name is in small letters.
+    pub(crate) fn check_zero(&self, name: &[u8], cause: Cause) -> Result<(), Refused>
+        ensures { Checks (λ reader. spec.zero_refusals reader (row_of self.now) name.now cause) result }
     {
         let amount = self.named_number(name, CHARGE_LIMIT)?;
         if amount != 0 {
-            let column = self.position(name);
-            return Err(self.refusal(number, column, 0));
+            let column = self.cells.position(name);
+            return Err(self.refusal(cause, column, 0));
         }
         Ok(())
     }
@@ -74,11 +68,11 @@ impl<'a> Record<'a> {
         if amount == 0 {
             return Ok(charge_of(0, ChargeUnit::Month));
         }
-        match read_unit(self.named_cell(unit_name)) {
+        match read_unit(self.cells.named_cell(unit_name)) {
             Some(unit) => Ok(charge_of(amount, unit)),
             None => {
-                let column = self.position(unit_name);
-                Err(self.refusal(20, column, 0))
+                let column = self.cells.position(unit_name);
+                Err(self.refusal(Cause::ChargeUnit, column, 0))
             }
         }
     }

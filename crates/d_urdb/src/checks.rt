@@ -9,6 +9,7 @@ ghost use Rattle.d_urdb.specs.Values.{HasRisingEnds, HasSoundTiers};
 ghost use Rattle.d_urdb.specs.Checks.{Checks, ChecksOrNot, IsHoleCheck, tier_refusals};
 ghost use Rattle.d_urdb.specs.Refusals.{each};
 
+use crate::cause::Cause;
 use crate::fault::{RecordFault, Refused};
 use crate::number::{fault_detail, read_end, read_number};
 use crate::row::Record;
@@ -34,7 +35,7 @@ impl<'a> Record<'a> {
         ensures prices { OnOk result (HasSoundTiers (row_of self.now) structure period) }
     {
         self.check_holes(alloc, structure, period)?;
-        if !self.has_tier(structure, period, 0) {
+        if !self.cells.has_tier(structure, period, 0) {
             return Ok(());
         }
         self.check_tiers(TierRule::Numbers, structure, period)?;
@@ -57,7 +58,7 @@ impl<'a> Record<'a> {
     {
         let hole = self.cells.first_hole(alloc, structure, period)?;
         if let Some(column) = hole {
-            return Err(RecordFault::Refused(self.refusal(7, Some(column), 0)));
+            return Err(RecordFault::Refused(self.refusal(Cause::TierHole, Some(column), 0)));
         }
         Ok(())
     }
@@ -119,11 +120,11 @@ impl<'a> Record<'a> {
         if self.is_last(structure, period, tier) {
             return Ok(());
         }
-        match read_end(self.part_cell(structure, period, tier, Part::Max)) {
+        match read_end(self.cells.part_cell(structure, period, tier, Part::Max)) {
             Ok(_) => Ok(()),
             Err(fault) => {
-                let column = self.part_column(structure, period, tier, Part::Max);
-                Err(self.refusal(4, column, fault_detail(fault)))
+                let column = self.cells.part_column(structure, period, tier, Part::Max);
+                Err(self.refusal(Cause::Decimal, column, fault_detail(fault)))
             }
         }
     }
@@ -140,11 +141,14 @@ impl<'a> Record<'a> {
         requires tier { tier ≤ 15 }
         ensures { Checks (λ reader. spec.price_refusal reader (row_of self.now) structure period tier part ∷ []) result }
     {
-        match read_number(self.part_cell(structure, period, tier, part), PRICE_LIMIT) {
+        match read_number(
+            self.cells.part_cell(structure, period, tier, part),
+            PRICE_LIMIT,
+        ) {
             Ok(_) => Ok(()),
             Err(fault) => {
-                let column = self.part_column(structure, period, tier, part);
-                Err(self.refusal(4, column, fault_detail(fault)))
+                let column = self.cells.part_column(structure, period, tier, part);
+                Err(self.refusal(Cause::Decimal, column, fault_detail(fault)))
             }
         }
     }
@@ -156,7 +160,7 @@ impl<'a> Record<'a> {
         requires few { has_tier (row_of self.now) structure period 16 ≡ false }
         ensures { result ≡ spec.is_last (row_of self.now) structure period tier }
     {
-        tier + 1 == TIERS || !self.has_tier(structure, period, tier + 1)
+        tier + 1 == TIERS || !self.cells.has_tier(structure, period, tier + 1)
     }
 
     /// Tests the unit of a tier.
@@ -166,8 +170,8 @@ impl<'a> Record<'a> {
         ensures { Checks (λ reader. spec.unit_refusal (row_of self.now) structure period tier ∷ []) result }
     {
         if self.has_other_unit(structure, period, tier) {
-            let column = self.part_column(structure, period, tier, Part::Unit);
-            return Err(self.refusal(9, column, 0));
+            let column = self.cells.part_column(structure, period, tier, Part::Unit);
+            return Err(self.refusal(Cause::TierUnit, column, 0));
         }
         Ok(())
     }
@@ -178,8 +182,8 @@ impl<'a> Record<'a> {
         requires tier { tier ≤ 15 }
         ensures { result ≡ spec.has_other_unit (row_of self.now) structure period tier }
     {
-        self.has_tier(structure, period, 1)
-            && !is_kwh(self.part_cell(structure, period, tier, Part::Unit))
+        self.cells.has_tier(structure, period, 1)
+            && !is_kwh(self.cells.part_cell(structure, period, tier, Part::Unit))
     }
 
     /// Tests that a tier ends above where it begins, unless it is the last.
@@ -190,8 +194,8 @@ impl<'a> Record<'a> {
         ensures { Checks (λ reader. spec.order_refusal reader (row_of self.now) structure period tier ∷ []) result }
     {
         if self.breaks_order(structure, period, tier) {
-            let column = self.part_column(structure, period, tier, Part::Max);
-            return Err(self.refusal(8, column, 0));
+            let column = self.cells.part_column(structure, period, tier, Part::Max);
+            return Err(self.refusal(Cause::TierOrder, column, 0));
         }
         Ok(())
     }
@@ -218,8 +222,8 @@ impl<'a> Record<'a> {
         ensures { Checks (λ reader. spec.sell_refusal reader (row_of self.now) structure period tier ∷ []) result }
     {
         if self.has_other_sell(structure, period, tier) {
-            let column = self.part_column(structure, period, tier, Part::Sell);
-            return Err(self.refusal(10, column, 0));
+            let column = self.cells.part_column(structure, period, tier, Part::Sell);
+            return Err(self.refusal(Cause::SellTiers, column, 0));
         }
         Ok(())
     }
@@ -230,7 +234,7 @@ impl<'a> Record<'a> {
         requires tier { tier ≤ 15 }
         ensures { Reads (λ reader. spec.has_other_sell reader (row_of self.now) structure period tier) result }
     {
-        if !self.is_filled(structure, period, tier, Part::Sell) {
+        if !self.cells.is_filled(structure, period, tier, Part::Sell) {
             return false;
         }
         let price = self.price_in(structure, period, tier, Part::Sell);
@@ -245,9 +249,9 @@ impl<'a> Record<'a> {
         ensures { Checks (λ reader. spec.fall_refusal reader (row_of self.now) structure period tier ∷ []) result }
     {
         if self.has_negative_price(structure, period, tier) {
-            let added = self.part_column(structure, period, tier, Part::Adj);
-            let rate = self.part_column(structure, period, tier, Part::Rate);
-            return Err(self.refusal(11, added.or(rate), 0));
+            let added = self.cells.part_column(structure, period, tier, Part::Adj);
+            let rate = self.cells.part_column(structure, period, tier, Part::Rate);
+            return Err(self.refusal(Cause::DemandFalls, added.or(rate), 0));
         }
         Ok(())
     }

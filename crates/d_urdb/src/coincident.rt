@@ -7,6 +7,7 @@ ghost use Rattle.d_urdb.specs.Coincident.{rule_refusals};
 ghost use Rattle.d_urdb.specs.Refusals.{each};
 ghost use Rattle.d_urdb.specs.Shown.{row_of};
 
+use crate::cause::Cause;
 use crate::coincident_rule::CoincidentRule;
 use crate::fault::Refused;
 use crate::row::Record;
@@ -87,8 +88,10 @@ impl<'a> Record<'a> {
     {
         let price = self.price_in(Structure::Coincident, period, tier, part);
         if price.units() != 0 {
-            let column = self.part_column(Structure::Coincident, period, tier, part);
-            return Err(self.refusal(16, column, 0));
+            let column = self
+                .cells
+                .part_column(Structure::Coincident, period, tier, part);
+            return Err(self.refusal(Cause::Coincident, column, 0));
         }
         Ok(())
     }

@@ -11,6 +11,7 @@ ghost use Rattle.d_urdb.specs.Periods.{is_demand};
 ghost use Rattle.d_urdb.specs.Shown.{row_of};
 ghost use Rattle.d_urdb.specs.Values.{HasRisingEnds, HasSoundTiers, HasSoundPrices};
 
+use crate::cause::Cause;
 use crate::fault::Refused;
 use crate::row::Record;
 use d_cal::Schedule;
@@ -26,9 +27,9 @@ impl<'a> Record<'a> {
     pub(crate) fn check_demand_unit(&self, name: &[u8]) -> Result<(), Refused>
         ensures { Checks (λ reader. spec.demand_unit_refusal (row_of self.now) name.now ∷ []) result }
     {
-        if !is_kw(self.named_cell(name)) {
-            let column = self.position(name);
-            return Err(self.refusal(12, column, 0));
+        if !is_kw(self.cells.named_cell(name)) {
+            let column = self.cells.position(name);
+            return Err(self.refusal(Cause::DemandUnit, column, 0));
         }
         Ok(())
     }
@@ -71,7 +72,7 @@ impl<'a> Record<'a> {
         ensures value { Reads (λ reader. spec.demand_tiers reader (row_of self.now) structure period) result }
         ensures prices { IfSome result HasDemandPrices }
     {
-        if !self.has_tier(structure, period, 0) {
+        if !self.cells.has_tier(structure, period, 0) {
             return None;
         }
         Some(self.tiers(structure, period))

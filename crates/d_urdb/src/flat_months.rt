@@ -9,6 +9,7 @@ ghost use Rattle.d_urdb.specs.PeriodDigits.{with_digit};
 ghost use Rattle.d_urdb.specs.Refusals.{each};
 ghost use Rattle.d_urdb.specs.Shown.{row_of};
 
+use crate::cause::Cause;
 use crate::fault::Refused;
 use crate::months::Items;
 use crate::row::Record;
@@ -51,7 +52,7 @@ impl<'a> Record<'a> {
             Some(period) => Ok(period),
             None => {
                 let column = self.item_column(items, month);
-                Err(self.refusal(5, column, 0))
+                Err(self.refusal(Cause::Grid, column, 0))
             }
         }
     }

@@ -9,6 +9,7 @@ ghost use Rattle.d_urdb.specs.Checks.{Checks};
 ghost use Rattle.d_urdb.specs.Hours as spec;
 ghost use Rattle.d_urdb.specs.Energy.{AreEnergyHours};
 
+use crate::cause::Cause;
 use crate::fault::Refused;
 use crate::row::Record;
 use d_cal::Schedule;
@@ -35,15 +36,15 @@ impl<'a> Record<'a> {
         ensures range { IfOk result (All (All (λ period. period ≤ 35))) }
     {
         let mut hours = [[0; 24]; 12];
-        let cell = self.named_cell(name);
+        let cell = self.cells.named_cell(name);
         if cell.is_empty() {
             return Ok(hours);
         }
         match read_grid(cell, &mut hours) {
             Ok(()) => Ok(hours),
             Err(fault) => {
-                let column = self.position(name);
-                Err(self.refusal(5, column, fault.place as u64))
+                let column = self.cells.position(name);
+                Err(self.refusal(Cause::Grid, column, fault.place as u64))
             }
         }
     }
@@ -58,7 +59,7 @@ impl<'a> Record<'a> {
     {
         for period in 0..PERIODS {
             if self.is_missing(period, weekday, weekend) {
-                return Err(self.refusal(6, None, u64::from(period)));
+                return Err(self.refusal(Cause::EnergyMissing, None, u64::from(period)));
             }
         }
         Ok(())
@@ -67,10 +68,10 @@ impl<'a> Record<'a> {
     /// Whether an hour is in this period, and the period has no tier.
     fn is_missing(&self, period: u8, weekday: &[[u8; 24]; 12], weekend: &[[u8; 24]; 12]) -> bool
         requires { period ≤ 35 }
-        ensures { result ≡ ((spec.occurs_in period weekday.now || spec.occurs_in period weekend.now) && not (has_tier (row_of self.now) Structure.Energy period 0)) }
+        ensures { result ≡ spec.is_missing (row_of self.now) weekday.now weekend.now period }
     {
         (occurs(period, weekday) || occurs(period, weekend))
-            && !self.has_tier(Structure::Energy, period, 0)
+            && !self.cells.has_tier(Structure::Energy, period, 0)
     }
 }
 

@@ -8,6 +8,7 @@ ghost use Rattle.d_urdb.specs.Refusals as spec;
 ghost use Rattle.d_urdb.specs.Record.{record_outcome, row_outcome};
 ghost use Rattle.d_columns.specs.Tiers.{data_row};
 
+use crate::cause::Cause;
 use crate::fault::Refused;
 use d_table::Table;
 
@@ -20,29 +21,29 @@ pub(crate) fn find_row(table: &Table, label: &[u8]) -> Result<usize, Refused>
         record_outcome reader table.now label.now rule ≡ Err refused) }
 {
     let Some(column) = table.position(b"label") else {
-        return Err(refusal(table, 3));
+        return Err(refusal(table, Cause::NoColumn));
     };
     let mut found = None;
     for row in 0..table.rows() {
         if table.cell(row, column) == label {
             if found.is_some() {
-                return Err(refusal(table, 2));
+                return Err(refusal(table, Cause::LabelTwice));
             }
             found = Some(row);
         }
     }
     match found {
         Some(row) => Ok(row),
-        None => Err(refusal(table, 1)),
+        None => Err(refusal(table, Cause::NoLabel)),
     }
 }
 
 /// A refusal that names no column.
-fn refusal(table: &Table, number: u8) -> Refused
-    ensures { result ≡ spec.refusal (row_at table.now 0) number None 0 }
+fn refusal(table: &Table, cause: Cause) -> Refused
+    ensures { result ≡ spec.refusal (row_at table.now 0) cause None 0 }
 {
     Refused {
-        number,
+        number: cause.number(),
         column: table.columns(),
         detail: 0,
     }

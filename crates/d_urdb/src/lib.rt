@@ -4,6 +4,7 @@
 //! or a meter's readings. Each cell is read in exactly one way, so that each record has exactly one outcome, and that is a law of its own.
 #![tactic(auto)]
 
+mod cause;
 mod charges;
 mod checks;
 mod coincident;
@@ -21,7 +22,6 @@ mod named_number;
 mod number;
 mod periods;
 mod ratchets;
-mod reactive;
 mod record;
 mod row;
 mod rule;
@@ -29,6 +29,7 @@ mod terms;
 mod tier_rule;
 mod values;
 
+pub use cause::refusal_name;
 pub use fault::{RecordFault, Refused};
 pub use law::reads_once;
 pub use record::read_record;

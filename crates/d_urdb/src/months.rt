@@ -3,12 +3,13 @@
 ghost use Rattle.std.specs.Prelude.{◌≡◌, ◌<◌, ◌≤◌, ◌*◌, ◌^◌, ◌∷◌, [], All, length, IfOk, IfSome};
 ghost use Rattle.d_num.specs.Amount.{IsWithin};
 ghost use Rattle.d_urdb.specs.Checks.{Checks};
-ghost use Rattle.d_urdb.specs.Items.{item_number, AreItemsOf, AreNumbersOf};
+ghost use Rattle.d_urdb.specs.Items.{item_number, AreItemsOf, AreNumbers};
 ghost use Rattle.d_urdb.specs.Months as spec;
-ghost use Rattle.d_urdb.specs.Numbers.{CellReader, IsCellReader, Reads};
+ghost use Rattle.d_urdb.specs.Numbers.{Reads};
 ghost use Rattle.d_urdb.specs.Refusals.{each};
 ghost use Rattle.d_urdb.specs.Shown.{row_of};
 
+use crate::cause::Cause;
 use crate::fault::Refused;
 use crate::number::{fault_detail, read_number};
 use crate::row::Record;
@@ -29,7 +30,7 @@ impl<'a> Record<'a> {
         ensures items { IfOk result (AreItemsOf (row_of self.now) list) }
     {
         let name = list.list_name();
-        let cell = self.named_cell(name);
+        let cell = self.cells.named_cell(name);
         if cell.is_empty() {
             return Ok(Items { list, spans: None });
         }
@@ -41,8 +42,8 @@ impl<'a> Record<'a> {
                 spans: Some(spans),
             }),
             Err(fault) => {
-                let column = self.position(name);
-                Err(self.refusal(5, column, fault.place as u64))
+                let column = self.cells.position(name);
+                Err(self.refusal(Cause::Grid, column, fault.place as u64))
             }
         }
     }
@@ -56,9 +57,9 @@ impl<'a> Record<'a> {
         match items.spans {
             Some(spans) => {
                 let span = spans[usize::from(month)];
-                &self.named_cell(items.list.list_name())[span.from..span.to]
+                &self.cells.named_cell(items.list.list_name())[span.from..span.to]
             }
-            None => self.named_cell(items.list.month_name(month)),
+            None => self.cells.named_cell(items.list.month_name(month)),
         }
     }
 
@@ -70,8 +71,8 @@ impl<'a> Record<'a> {
         ensures within { IfSome result (λ column. column < length (row_of self.now).header) }
     {
         match items.spans {
-            Some(_) => self.position(items.list.list_name()),
-            None => self.position(items.list.month_name(month)),
+            Some(_) => self.cells.position(items.list.list_name()),
+            None => self.cells.position(items.list.month_name(month)),
         }
     }
 
@@ -88,7 +89,7 @@ impl<'a> Record<'a> {
             Ok(units) => Ok(units),
             Err(fault) => {
                 let column = self.item_column(items, month);
-                Err(self.refusal(4, column, fault_detail(fault)))
+                Err(self.refusal(Cause::Decimal, column, fault_detail(fault)))
             }
         }
     }
@@ -98,7 +99,7 @@ impl<'a> Record<'a> {
         requires limit { limit ≤ 10 ^ 10 }
         requires items { AreItemsOf (row_of self.now) items.now.list items.now }
         ensures refusals { Checks (λ reader. each 12 (λ month. spec.item_refusal reader (row_of self.now) items.now.list limit month ∷ [])) result }
-        ensures value { IfOk result (λ numbers. (reader : CellReader) → IsCellReader reader → AreNumbersOf reader (row_of self.now) items.now.list limit numbers) }
+        ensures value { IfOk result (AreNumbers (row_of self.now) items.now.list limit) }
         ensures range { IfOk result (All (IsWithin (limit * 10 ^ 18))) }
     {
         let mut numbers = [0; 12];

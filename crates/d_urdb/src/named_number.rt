@@ -7,6 +7,7 @@ ghost use Rattle.d_urdb.specs.NamedNumbers as spec;
 ghost use Rattle.d_urdb.specs.Numbers.{Reads};
 ghost use Rattle.d_urdb.specs.Shown.{row_of};
 
+use crate::cause::Cause;
 use crate::fault::Refused;
 use crate::number::{fault_detail, read_number};
 use crate::row::Record;
@@ -20,11 +21,11 @@ impl<'a> Record<'a> {
         ensures value { IfOk result (Reads (λ reader. spec.named_number reader (row_of self.now) limit name.now)) }
         ensures range { IfOk result (IsWithin (limit * 10 ^ 18)) }
     {
-        match read_number(self.named_cell(name), limit) {
+        match read_number(self.cells.named_cell(name), limit) {
             Ok(units) => Ok(units),
             Err(fault) => {
-                let column = self.position(name);
-                Err(self.refusal(4, column, fault_detail(fault)))
+                let column = self.cells.position(name);
+                Err(self.refusal(Cause::Decimal, column, fault_detail(fault)))
             }
         }
     }

@@ -3,13 +3,14 @@
 ghost use Rattle.std.specs.Prelude.{◌≡◌, ℤ, ◌<◌, ◌≤◌, ◌*◌, ◌^◌, ◌∷◌, [], All, IfOk};
 ghost use Rattle.d_num.specs.Amount.{IsWithin};
 ghost use Rattle.d_urdb.specs.Checks.{Checks};
-ghost use Rattle.d_urdb.specs.Items.{AreItemsOf, AreNumbersOf};
+ghost use Rattle.d_urdb.specs.Items.{AreItemsOf, AreNumbers};
 ghost use Rattle.d_urdb.specs.NamedNumbers.{named_number};
-ghost use Rattle.d_urdb.specs.Numbers.{CellReader, IsCellReader, Reads};
+ghost use Rattle.d_urdb.specs.Numbers.{Reads};
 ghost use Rattle.d_urdb.specs.Ratchets as spec;
 ghost use Rattle.d_urdb.specs.Refusals.{each};
 ghost use Rattle.d_urdb.specs.Shown.{row_of};
 
+use crate::cause::Cause;
 use crate::fault::Refused;
 use crate::months::Items;
 use crate::row::Record;
@@ -39,14 +40,14 @@ impl<'a> Record<'a> {
     /// Tests that no month's number is below 0.
     fn check_fractions(&self, items: &Items, numbers: &[i128; 12]) -> Result<(), Refused>
         requires items { AreItemsOf (row_of self.now) MonthList.Ratchets items.now }
-        requires numbers { (reader : CellReader) → IsCellReader reader → AreNumbersOf reader (row_of self.now) MonthList.Ratchets 100 numbers.now }
+        requires numbers { AreNumbers (row_of self.now) MonthList.Ratchets 100 numbers.now }
         requires small { All (IsWithin (100 * 10 ^ 18)) numbers.now }
         ensures { Checks (λ reader. each 12 (λ month. spec.fraction_refusal reader (row_of self.now) month ∷ [])) result }
     {
         for month in 0..12 {
             if numbers[usize::from(month)] < 0 {
                 let column = self.item_column(items, month);
-                return Err(self.refusal(22, column, 0));
+                return Err(self.refusal(Cause::Fraction, column, 0));
             }
         }
         Ok(())
@@ -59,8 +60,8 @@ impl<'a> Record<'a> {
         ensures { Checks (λ reader. spec.lookback_refusal reader (row_of self.now) ∷ []) result }
     {
         if lookback < 0 {
-            let column = self.position(b"lookbackpercent");
-            return Err(self.refusal(22, column, 0));
+            let column = self.cells.position(b"lookbackpercent");
+            return Err(self.refusal(Cause::Fraction, column, 0));
         }
         Ok(())
     }
@@ -68,7 +69,7 @@ impl<'a> Record<'a> {
     /// The fraction of each month by the months' numbers and that of all months that have none of their own.
     fn fractions(&self, items: &Items, numbers: &[i128; 12], lookback: i128) -> [u128; 12]
         requires items { AreItemsOf (row_of self.now) MonthList.Ratchets items.now }
-        requires numbers { (reader : CellReader) → IsCellReader reader → AreNumbersOf reader (row_of self.now) MonthList.Ratchets 100 numbers.now }
+        requires numbers { AreNumbers (row_of self.now) MonthList.Ratchets 100 numbers.now }
         requires small { All (IsWithin (100 * 10 ^ 18)) numbers.now }
         requires lookback { Reads (λ reader. named_number reader (row_of self.now) 100 spec.lookback_name) lookback }
         requires limit { IsWithin (100 * 10 ^ 18) lookback }

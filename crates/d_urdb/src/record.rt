@@ -13,6 +13,7 @@ ghost use Rattle.d_urdb.specs.Record.{IsOutcome, row_refusals, energy_section, d
 ghost use Rattle.d_urdb.specs.Values.{HasSoundPrices};
 ghost use Rattle.d_urdb.specs.declared.fault.RecordFault.TheVariants as variant;
 
+use crate::cause::Cause;
 use crate::fault::{RecordFault, Refused};
 use crate::label::find_row;
 use crate::row::Record;
@@ -68,7 +69,7 @@ impl<'a> Record<'a> {
         let ratchet = self.ratchets()?;
         let fixed = self.fixed_charge()?;
         let minimum = self.minimum_charge()?;
-        self.check_annual()?;
+        self.check_zero(b"annualmincharge", Cause::AnnualMinimum)?;
         self.check_adjustments()?;
         Ok(Accepted {
             energy_hours,
@@ -124,7 +125,7 @@ impl<'a> Record<'a> {
         ensures { Checks (λ reader. adjustment_section reader (row_of self.now)) result }
     {
         self.check_coincident()?;
-        self.check_reactive()?;
+        self.check_zero(b"demandreactivepowercharge", Cause::Reactive)?;
         self.check_fuel()
     }
 }

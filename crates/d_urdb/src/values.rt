@@ -28,7 +28,10 @@ impl<'a> Record<'a> {
         ensures value { Reads (λ reader. spec.part_price reader (row_of self.now) structure period tier part) result }
         ensures range { IsWithin (10 ^ 21) result }
     {
-        match read_number(self.part_cell(structure, period, tier, part), PRICE_LIMIT) {
+        match read_number(
+            self.cells.part_cell(structure, period, tier, part),
+            PRICE_LIMIT,
+        ) {
             Ok(price) => rate_of(price),
             Err(_) => rate_of(0),
         }
@@ -53,7 +56,7 @@ impl<'a> Record<'a> {
         ensures value { Reads (λ reader. spec.end_of reader (row_of self.now) structure period tier) result }
         ensures range { IfSome result (IsWithin (10 ^ 13)) }
     {
-        match read_end(self.part_cell(structure, period, tier, Part::Max)) {
+        match read_end(self.cells.part_cell(structure, period, tier, Part::Max)) {
             Ok(end) => end,
             Err(_) => None,
         }
@@ -91,7 +94,7 @@ impl<'a> Record<'a> {
         ensures range { IfSome result (λ tier. tier ≤ 15) }
     {
         for tier in 0..TIERS {
-            if self.is_filled(structure, period, tier, Part::Sell) {
+            if self.cells.is_filled(structure, period, tier, Part::Sell) {
                 return Some(tier);
             }
         }
@@ -122,7 +125,7 @@ impl<'a> Record<'a> {
         ensures value { Reads (λ reader. spec.tiers_to reader (row_of self.now) structure period tier) tiers.new }
         ensures prices { HasPrices tiers.new }
     {
-        if !self.has_tier(structure, period, tier) {
+        if !self.cells.has_tier(structure, period, tier) {
             return;
         }
         if let Some(end) = self.end_of(structure, period, tier - 1) {
@@ -137,7 +140,7 @@ impl<'a> Record<'a> {
         ensures value { Reads (λ reader. spec.energy_period reader (row_of self.now) period) result }
         ensures prices { IfSome result HasEnergyPrices }
     {
-        if !self.has_tier(Structure::Energy, period, 0) {
+        if !self.cells.has_tier(Structure::Energy, period, 0) {
             return None;
         }
         let tiers = self.tiers(Structure::Energy, period);

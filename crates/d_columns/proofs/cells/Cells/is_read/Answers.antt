@@ -1,7 +1,11 @@
 use Rattle.std.proofs.Common.{◌∙◌, sym}
 use Rattle.d_columns.specs.Ignored.{is_read}
-use Rattle.d_columns.proofs.IgnoredFacts.{second_holds, third_decides}
+use Rattle.d_columns.proofs.IgnoredFacts.{first_holds, second_holds, third_decides}
 use Rattle.d_columns.proofs.cells.Cells.is_read.Goals as goal
+
+pub returns-then-is_tier_column : goal.returns-then-is_tier_column
+unfolding is_read
+returns-then-is_tier_column c = first_holds _ _ (sym c.is_tier_column.ensures ∙ c.if-is_tier_column.true)
 
 pub returns-then-has_one_of : goal.returns-then-has_one_of
 unfolding is_read

@@ -11,6 +11,7 @@ use Rattle.d_urdb.proofs.KeptNumbers.{kept_test}
 use Rattle.d_urdb.proofs.RatchetFacts.{fraction_passes, fraction_refuses}
 use Rattle.d_urdb.proofs.RefusalOrder.{none_yet, one_more, refused_here}
 use Rattle.d_urdb.proofs.row.Record.check_fractions.Goals as goal
+use Rattle.d_urdb.specs.declared.cause.Cause.TheVariants as cause
 
 pub loop-month-init : goal.loop-month-init
 loop-month-init c = none_yet (λ reader month. fraction_refusal reader (row_of c.args.self.now) month ∷ [])
@@ -27,7 +28,7 @@ returns-then-numbers-from-lt0 c =
     refused_here 12 month list c.refusal.result c.loop-month-test.true c.loop-month.invariant
     (λ reader are.
     fraction_refuses reader row month _ c.refusal.result (c.requires.numbers reader are month c.loop-month-test.true) test
-    (refusal_same _ 22 _ _ 0 0 c.refusal.result c.refusal.ensures column refl))
+    (refusal_same _ cause.Fraction _ _ 0 0 c.refusal.result c.refusal.ensures column refl))
 
 pub loop-month-preserved : goal.loop-month-preserved
 loop-month-preserved c =

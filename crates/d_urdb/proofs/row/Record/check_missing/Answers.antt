@@ -8,6 +8,7 @@ use Rattle.d_urdb.specs.Hours.{missing_refusal, missing_refusals}
 use Rattle.d_urdb.proofs.CheckFacts.{refusal_same, when_passes, when_refuses}
 use Rattle.d_urdb.proofs.RefusalOrder.{none_yet, one_more, refused_here}
 use Rattle.d_urdb.proofs.row.Record.check_missing.Goals as goal
+use Rattle.d_urdb.specs.declared.cause.Cause.TheVariants as cause
 
 pub loop-period-init : goal.loop-period-init
 loop-period-init c = none_yet (λ reader period. missing_refusal (row_of c.args.self.now) c.args.weekday.now c.args.weekend.now period ∷ [])
@@ -18,7 +19,7 @@ returns-then-is_missing c =
     let list : CellReader → ℕ → List (Option Refused) = λ reader period. missing_refusal (row_of c.args.self.now) c.args.weekday.now c.args.weekend.now period ∷ [] in
     refused_here 36 c.loop-period.period list c.refusal.result (omega arith) c.loop-period.invariant
     (λ reader are. when_refuses _ _ c.refusal.result (sym c.if-is_missing.ensures)
-    (refusal_same _ 6 None None c.from.result c.loop-period.period c.refusal.result c.refusal.ensures refl c.from.ensures))
+    (refusal_same _ cause.EnergyMissing None None c.from.result c.loop-period.period c.refusal.result c.refusal.ensures refl c.from.ensures))
 
 pub loop-period-preserved : goal.loop-period-preserved
 loop-period-preserved c =

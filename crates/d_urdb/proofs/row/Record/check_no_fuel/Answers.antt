@@ -13,6 +13,7 @@ use Rattle.d_urdb.proofs.KeptNumbers.{kept_test}
 use Rattle.d_urdb.proofs.FuelFacts.{fuel_passes, fuel_refuses}
 use Rattle.d_urdb.proofs.RefusalOrder.{none_yet, one_more, refused_here}
 use Rattle.d_urdb.proofs.row.Record.check_no_fuel.Goals as goal
+use Rattle.d_urdb.specs.declared.cause.Cause.TheVariants as cause
 
 pub loop-month-init : goal.loop-month-init
 loop-month-init c = none_yet (λ reader month. fuel_refusal reader (row_of c.args.self.now) month ∷ [])
@@ -29,7 +30,7 @@ returns-then-isnt_zero c =
     refused_here 12 month list c.refusal.result c.loop-month-test.true c.loop-month.invariant
     (λ reader are.
     fuel_refuses reader row month _ c.refusal.result (c.requires.numbers reader are month c.loop-month-test.true) test
-    (refusal_same _ 19 _ _ 0 0 c.refusal.result c.refusal.ensures column refl))
+    (refusal_same _ cause.FuelAdjustment _ _ 0 0 c.refusal.result c.refusal.ensures column refl))
 
 pub loop-month-preserved : goal.loop-month-preserved
 loop-month-preserved c =

@@ -47,21 +47,21 @@ returns-in_err-minimum-clause-refusals c =
     let p = err_from_is_err_and c.from_residual-in_err-minimum.result c.from_residual-in_err-minimum.ensures.1 in
     rw (p.1, p.2) (λ reader are. none_before _ _ (c.in_ok-energy_hours.ensures.refusals reader are) ∙ (none_before _ _ (c.in_ok-demand_hours.ensures.refusals reader are) ∙ (none_before _ _ (c.in_ok-flat_months.ensures.refusals reader are) ∙ (none_before _ _ (c.in_ok-ratchet.ensures.refusals reader are) ∙ (none_before _ _ (c.in_ok-fixed.ensures.refusals reader are) ∙ (some_before _ _ _ (c.in_err-minimum.ensures.refusals reader are)))))))
 
-pub returns-in_err-check_annual-clause-refusals : goal.returns-in_err-check_annual-clause-refusals
+pub returns-in_err-check_zero-clause-refusals : goal.returns-in_err-check_zero-clause-refusals
 unfolding row_refusals
-returns-in_err-check_annual-clause-refusals c =
-    let p = err_from_is_err_and c.from_residual-in_err-check_annual.result c.from_residual-in_err-check_annual.ensures.1 in
-    rw (p.1, p.2) (λ reader are. none_before _ _ (c.in_ok-energy_hours.ensures.refusals reader are) ∙ (none_before _ _ (c.in_ok-demand_hours.ensures.refusals reader are) ∙ (none_before _ _ (c.in_ok-flat_months.ensures.refusals reader are) ∙ (none_before _ _ (c.in_ok-ratchet.ensures.refusals reader are) ∙ (none_before _ _ (c.in_ok-fixed.ensures.refusals reader are) ∙ (none_before _ _ (c.in_ok-minimum.ensures.refusals reader are) ∙ (some_before _ _ _ (c.in_err-check_annual.ensures reader are))))))))
+returns-in_err-check_zero-clause-refusals c =
+    let p = err_from_is_err_and c.from_residual-in_err-check_zero.result c.from_residual-in_err-check_zero.ensures.1 in
+    rw (p.1, p.2) (λ reader are. none_before _ _ (c.in_ok-energy_hours.ensures.refusals reader are) ∙ (none_before _ _ (c.in_ok-demand_hours.ensures.refusals reader are) ∙ (none_before _ _ (c.in_ok-flat_months.ensures.refusals reader are) ∙ (none_before _ _ (c.in_ok-ratchet.ensures.refusals reader are) ∙ (none_before _ _ (c.in_ok-fixed.ensures.refusals reader are) ∙ (none_before _ _ (c.in_ok-minimum.ensures.refusals reader are) ∙ (some_before _ _ _ (c.in_err-check_zero.ensures reader are))))))))
 
 pub returns-in_err-check_adjustments-clause-refusals : goal.returns-in_err-check_adjustments-clause-refusals
 unfolding row_refusals
 returns-in_err-check_adjustments-clause-refusals c =
     let p = err_from_is_err_and c.from_residual-in_err-check_adjustments.result c.from_residual-in_err-check_adjustments.ensures.1 in
-    rw (p.1, p.2) (λ reader are. none_before _ _ (c.in_ok-energy_hours.ensures.refusals reader are) ∙ (none_before _ _ (c.in_ok-demand_hours.ensures.refusals reader are) ∙ (none_before _ _ (c.in_ok-flat_months.ensures.refusals reader are) ∙ (none_before _ _ (c.in_ok-ratchet.ensures.refusals reader are) ∙ (none_before _ _ (c.in_ok-fixed.ensures.refusals reader are) ∙ (none_before _ _ (c.in_ok-minimum.ensures.refusals reader are) ∙ (none_before _ _ (c.in_ok-check_annual.ensures reader are) ∙ (c.in_err-check_adjustments.ensures reader are))))))))
+    rw (p.1, p.2) (λ reader are. none_before _ _ (c.in_ok-energy_hours.ensures.refusals reader are) ∙ (none_before _ _ (c.in_ok-demand_hours.ensures.refusals reader are) ∙ (none_before _ _ (c.in_ok-flat_months.ensures.refusals reader are) ∙ (none_before _ _ (c.in_ok-ratchet.ensures.refusals reader are) ∙ (none_before _ _ (c.in_ok-fixed.ensures.refusals reader are) ∙ (none_before _ _ (c.in_ok-minimum.ensures.refusals reader are) ∙ (none_before _ _ (c.in_ok-check_zero.ensures reader are) ∙ (c.in_err-check_adjustments.ensures reader are))))))))
 
 pub returns-clause-refusals : goal.returns-clause-refusals
 unfolding row_refusals
-returns-clause-refusals c = λ reader are. none_before _ _ (c.in_ok-energy_hours.ensures.refusals reader are) ∙ (none_before _ _ (c.in_ok-demand_hours.ensures.refusals reader are) ∙ (none_before _ _ (c.in_ok-flat_months.ensures.refusals reader are) ∙ (none_before _ _ (c.in_ok-ratchet.ensures.refusals reader are) ∙ (none_before _ _ (c.in_ok-fixed.ensures.refusals reader are) ∙ (none_before _ _ (c.in_ok-minimum.ensures.refusals reader are) ∙ (none_before _ _ (c.in_ok-check_annual.ensures reader are) ∙ (c.in_ok-check_adjustments.ensures reader are)))))))
+returns-clause-refusals c = λ reader are. none_before _ _ (c.in_ok-energy_hours.ensures.refusals reader are) ∙ (none_before _ _ (c.in_ok-demand_hours.ensures.refusals reader are) ∙ (none_before _ _ (c.in_ok-flat_months.ensures.refusals reader are) ∙ (none_before _ _ (c.in_ok-ratchet.ensures.refusals reader are) ∙ (none_before _ _ (c.in_ok-fixed.ensures.refusals reader are) ∙ (none_before _ _ (c.in_ok-minimum.ensures.refusals reader are) ∙ (none_before _ _ (c.in_ok-check_zero.ensures reader are) ∙ (c.in_ok-check_adjustments.ensures reader are)))))))
 
 pub returns-clause-accepted : goal.returns-clause-accepted
 returns-clause-accepted c = record {

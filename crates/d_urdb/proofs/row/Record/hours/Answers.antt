@@ -5,6 +5,7 @@ use Rattle.d_urdb.proofs.CheckFacts.{refusal_same}
 use Rattle.d_urdb.proofs.NumberReads.{filled}
 use Rattle.d_urdb.proofs.HourFacts.{blank, zero_in_range, cell_read, grid_passes, grid_value, grid_refuses}
 use Rattle.d_urdb.proofs.row.Record.hours.Goals as goal
+use Rattle.d_urdb.specs.declared.cause.Cause.TheVariants as cause
 
 pub returns-then-is_empty-clause-refusals : goal.returns-then-is_empty-clause-refusals
 returns-then-is_empty-clause-refusals c reader are =
@@ -46,4 +47,4 @@ returns-in-Err-clause-refusals c reader are =
     let place = c.in-Err.fault.place in
     grid_refuses (row_of c.args.self.now) name place c.refusal.result reader
     (cell_read (row_of c.args.self.now) name cell (Err place) c.named_cell-cell.ensures (filled cell c.if-is_empty.ensures, c.in-Err.ensures.fault) reader are)
-    (refusal_same _ 5 _ _ place place c.refusal.result c.refusal.ensures c.position-column.ensures.value refl)
+    (refusal_same _ cause.Grid _ _ place place c.refusal.result c.refusal.ensures c.position-column.ensures.value refl)

@@ -5,6 +5,7 @@ use Rattle.d_table.specs.Table.{column_of}
 use Rattle.d_urdb.proofs.CheckFacts.{refusal_same}
 use Rattle.d_urdb.proofs.MonthFacts.{not_listed, listed_is, spans_read, unlisted_passes, listed_passes, listed_refuses, listed_items}
 use Rattle.d_urdb.proofs.row.Record.items.Goals as goal
+use Rattle.d_urdb.specs.declared.cause.Cause.TheVariants as cause
 
 pub returns-then-is_empty-clause-refusals : goal.returns-then-is_empty-clause-refusals
 returns-then-is_empty-clause-refusals c reader are =
@@ -38,5 +39,5 @@ returns-in-Err-clause-refusals c reader are =
     let here = c.named_cell-cell.ensures ∙ ap (named_cell row) c.list_name-name.ensures.value in
     listed_refuses reader row c.args.list place c.refusal.result (listed_is row c.args.list cell here c.if-is_empty.ensures)
     (spans_read row c.args.list cell (Err place) here c.in-Err.ensures.fault reader are)
-    (refusal_same _ 5 _ _ place place c.refusal.result c.refusal.ensures
+    (refusal_same _ cause.Grid _ _ place place c.refusal.result c.refusal.ensures
     (c.position-column.ensures.value ∙ ap (λ name. column_of name row.header) c.list_name-name.ensures.value) refl)

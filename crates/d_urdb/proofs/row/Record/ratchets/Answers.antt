@@ -49,3 +49,9 @@ pub returns-clause-refusals : goal.returns-clause-refusals
 returns-clause-refusals c =
     ratchets_pass (row_of c.args.self.now) c.in_ok-items.items.list c.in_ok-items.ensures.items.list_is c.in_ok-items.ensures.refusals
     c.in_ok-numbers.ensures.refusals c.in_ok-lookback.ensures.refusals c.in_ok-check_fractions.ensures c.in_ok-check_lookback.ensures
+
+pub returns-clause-value : goal.returns-clause-value
+returns-clause-value c = c.fractions.ensures.value
+
+pub returns-clause-range : goal.returns-clause-range
+returns-clause-range c = c.fractions.ensures.range
