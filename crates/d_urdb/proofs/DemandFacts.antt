@@ -14,17 +14,18 @@ use Rattle.d_tier.specs.declared.tier.Tier.{Tier}
 use Rattle.d_tier.specs.Tables.{open_tier, with_tier}
 use Rattle.d_tariff.specs.Terms.{HasDemandPrices}
 use Rattle.d_urdb.specs.declared.fault.Refused.{Refused}
-use Rattle.d_urdb.specs.declared.names.Structure.{Structure}
-use Rattle.d_urdb.specs.Numbers.{Readings, AreReadings}
+use Rattle.d_columns.specs.declared.names.Structure.{Structure}
+use Rattle.d_urdb.specs.Numbers.{CellReader, IsCellReader}
 use Rattle.d_urdb.specs.Refusals.{first_of, refusal}
-use Rattle.d_urdb.specs.Tiers.{Row, named_cell, has_tier}
+use Rattle.d_columns.specs.Tiers.{Row, named_cell, has_tier}
 use Rattle.d_urdb.specs.Periods.{is_demand, end_of, price_of, tiers_to}
 use Rattle.d_urdb.specs.Demand.{is_kw, demand_unit_refusal, demand_weekday_name, demand_weekend_name, demand_hours_refusals, demand_tiers, demand_periods}
 use Rattle.d_urdb.specs.Values.{HasPrices, HasSoundTiers}
 use Rattle.d_urdb.specs.Checks.{Passes, Refuses}
 use Rattle.d_urdb.proofs.HourFacts.{by_grid}
-use Rattle.d_urdb.proofs.ReadingFound.{one_reading}
+use Rattle.d_urdb.proofs.OneReader.{one_reader}
 use Rattle.d_urdb.proofs.RefusalOrder.{both_pass, first_refuses, then_refuses}
+use Rattle.d_urdb.specs.declared.cause.Cause.TheVariants as cause
 
 -- a unit that is accepted or not
 pub unit_passes : (row : Row) (name cell : List ℕ) (accepted : Bool) → cell ≡ named_cell row name → accepted ≡ is_kw cell → accepted ≡ true
@@ -33,22 +34,22 @@ unfolding first_of
 unit_passes row name cell accepted here is holds = let test : is_kw (named_cell row name) ≡ true = ap is_kw (sym here) ∙ sym is ∙ holds in rw test refl
 
 pub unit_refuses : (row : Row) (name cell : List ℕ) (accepted : Bool) (refused : Refused) → cell ≡ named_cell row name → accepted ≡ is_kw cell → accepted ≡ false
-    → refusal row.header 12 (column_of name row.header) 0 ≡ refused → first_of (demand_unit_refusal row name ∷ []) ≡ Some refused
+    → refusal row.header cause.DemandUnit (column_of name row.header) 0 ≡ refused → first_of (demand_unit_refusal row name ∷ []) ≡ Some refused
 unfolding first_of
 unit_refuses row name cell accepted refused here is fails same =
     let test : is_kw (named_cell row name) ≡ false = ap is_kw (sym here) ∙ sym is ∙ fails in rw test (ap (λ r. Some r) same)
 
 -- the schedules, one after the other
 pub weekday_refuses : (row : Row) (refused : Refused) → Refuses (by_grid row demand_weekday_name) refused
-    → Refuses (λ readings. demand_hours_refusals readings row) refused
+    → Refuses (λ reader. demand_hours_refusals reader row) refused
 weekday_refuses row refused here = first_refuses (by_grid row demand_weekday_name) (by_grid row demand_weekend_name) refused here
 
 pub weekend_refuses : (row : Row) (refused : Refused) → Passes (by_grid row demand_weekday_name) → Refuses (by_grid row demand_weekend_name) refused
-    → Refuses (λ readings. demand_hours_refusals readings row) refused
+    → Refuses (λ reader. demand_hours_refusals reader row) refused
 weekend_refuses row refused weekday here = then_refuses (by_grid row demand_weekday_name) (by_grid row demand_weekend_name) refused weekday here
 
 pub hours_pass : (row : Row) → Passes (by_grid row demand_weekday_name) → Passes (by_grid row demand_weekend_name)
-    → Passes (λ readings. demand_hours_refusals readings row)
+    → Passes (λ reader. demand_hours_refusals reader row)
 hours_pass row weekday weekend = both_pass (by_grid row demand_weekday_name) (by_grid row demand_weekend_name) weekday weekend
 
 -- a price that isn't below 0
@@ -74,62 +75,62 @@ least_with end price (tier ∷ next ∷ rest) least all =
     All-cons from_0_on tier (with_tier end price (next ∷ rest)) (All-head from_0_on tier (next ∷ rest) all)
     (least_with end price (next ∷ rest) least (All-tail from_0_on tier (next ∷ rest) all))
 
-least_to : (readings : Readings) (row : Row) (structure : Structure) (period last : ℕ)
-    → ((tier : ℕ) → tier ≤ last → pos 0 ≤ℤ price_of readings row structure period tier) → All from_0_on (tiers_to readings row structure period last)
+least_to : (reader : CellReader) (row : Row) (structure : Structure) (period last : ℕ)
+    → ((tier : ℕ) → tier ≤ last → pos 0 ≤ℤ price_of reader row structure period tier) → All from_0_on (tiers_to reader row structure period last)
 unfolding tiers_to from_0_on
-least_to readings row structure period zero least =
-    All-cons from_0_on (open_tier (price_of readings row structure period 0)) [] (least 0 (omega arith)) (All-nil from_0_on)
-least_to readings row structure period (suc last) least =
-    let before : All from_0_on (tiers_to readings row structure period last) = least_to readings row structure period last (λ tier within. least tier (omega (arith, within))) in
+least_to reader row structure period zero least =
+    All-cons from_0_on (open_tier (price_of reader row structure period 0)) [] (least 0 (omega arith)) (All-nil from_0_on)
+least_to reader row structure period (suc last) least =
+    let before : All from_0_on (tiers_to reader row structure period last) = least_to reader row structure period last (λ tier within. least tier (omega (arith, within))) in
     elim (cases_Bool (has_tier row structure period (suc last))) [
       | inl there ↦
           rw there
-          (least_with (unwrap_or (end_of readings row structure period last) (pos 0)) (price_of readings row structure period (suc last))
-          (tiers_to readings row structure period last) (least (suc last) (omega arith)) before)
+          (least_with (unwrap_or (end_of reader row structure period last) (pos 0)) (price_of reader row structure period (suc last))
+          (tiers_to reader row structure period last) (least (suc last) (omega arith)) before)
       | inr none ↦ rw none before
     ]
 
 -- prices of demand are in range
 pub in_range : (row : Row) (structure : Structure) (period : ℕ) (tiers : List Tier) → is_demand structure ≡ true → HasSoundTiers row structure period
-    → ((readings : Readings) → AreReadings readings → tiers ≡ tiers_to readings row structure period 15) → HasPrices tiers → HasDemandPrices tiers
+    → ((reader : CellReader) → IsCellReader reader → tiers ≡ tiers_to reader row structure period 15) → HasPrices tiers → HasDemandPrices tiers
 unfolding from_0_on
 in_range row structure period tiers demand sound made most =
-    let readings = one_reading.readings in
-    let are = one_reading.are in
-    let to : All from_0_on (tiers_to readings row structure period 15) = least_to readings row structure period 15
-    (λ tier within. from_0 (is_demand structure) (price_of readings row structure period tier) demand (sound readings are tier within)) in
-    let least : All from_0_on tiers = All-same from_0_on tiers (tiers_to readings row structure period 15) (made readings are) to in
+    let reader = one_reader.reader in
+    let are = one_reader.is_reader in
+    let to : All from_0_on (tiers_to reader row structure period 15) = least_to reader row structure period 15
+    (λ tier within. from_0 (is_demand structure) (price_of reader row structure period tier) demand (sound reader are tier within)) in
+    let least : All from_0_on tiers = All-same from_0_on tiers (tiers_to reader row structure period 15) (made reader are) to in
     λ k other below. (least k other below, (most k other below).1)
 
 -- a period without a tier, and one with tiers
-pub no_tiers : (readings : Readings) (row : Row) (structure : Structure) (period : ℕ) → has_tier row structure period 0 ≡ false
-    → None ≡ demand_tiers readings row structure period
-no_tiers readings row structure period none = rw none refl
+pub no_tiers : (reader : CellReader) (row : Row) (structure : Structure) (period : ℕ) → has_tier row structure period 0 ≡ false
+    → None ≡ demand_tiers reader row structure period
+no_tiers reader row structure period none = rw none refl
 
-pub some_tiers : (readings : Readings) (row : Row) (structure : Structure) (period : ℕ) (tiers : List Tier) → has_tier row structure period 0 ≡ true
-    → tiers ≡ tiers_to readings row structure period 15 → Some tiers ≡ demand_tiers readings row structure period
-some_tiers readings row structure period tiers there made = rw (there, made) refl
+pub some_tiers : (reader : CellReader) (row : Row) (structure : Structure) (period : ℕ) (tiers : List Tier) → has_tier row structure period 0 ≡ true
+    → tiers ≡ tiers_to reader row structure period 15 → Some tiers ≡ demand_tiers reader row structure period
+some_tiers reader row structure period tiers there made = rw (there, made) refl
 
 -- one more period
-pub tiers_more : (readings : Readings) (row : Row) (structure : Structure) (next : ℕ) (lists : List (Option (List Tier))) (tiers : Option (List Tier))
-    (news : List (Option (List Tier))) → news ≡ lists ++ tiers ∷ [] → lists ≡ map (demand_tiers readings row structure) (range_with_len 0 next)
-    → tiers ≡ demand_tiers readings row structure next → news ≡ map (demand_tiers readings row structure) (range_with_len 0 (next + 1))
-tiers_more readings row structure next lists tiers news is before here =
+pub tiers_more : (reader : CellReader) (row : Row) (structure : Structure) (next : ℕ) (lists : List (Option (List Tier))) (tiers : Option (List Tier))
+    (news : List (Option (List Tier))) → news ≡ lists ++ tiers ∷ [] → lists ≡ map (demand_tiers reader row structure) (range_with_len 0 next)
+    → tiers ≡ demand_tiers reader row structure next → news ≡ map (demand_tiers reader row structure) (range_with_len 0 (next + 1))
+tiers_more reader row structure next lists tiers news is before here =
     is ∙ ap (λ (t : Option (List Tier)). lists ++ t ∷ []) here
-    ∙ ap (λ (ls : List (Option (List Tier))). ls ++ demand_tiers readings row structure next ∷ []) before
-    ∙ sym (map-range_with_len_more (demand_tiers readings row structure) 0 next next (omega arith))
+    ∙ ap (λ (ls : List (Option (List Tier))). ls ++ demand_tiers reader row structure next ∷ []) before
+    ∙ sym (map-range_with_len_more (demand_tiers reader row structure) 0 next next (omega arith))
 
 -- all of them
-pub all_lists : (readings : Readings) (row : Row) (structure : Structure) (count : ℕ) (lists : List (Option (List Tier))) → count ≡ 36
-    → lists ≡ map (demand_tiers readings row structure) (range_with_len 0 count) → lists ≡ demand_periods readings row structure
+pub all_lists : (reader : CellReader) (row : Row) (structure : Structure) (count : ℕ) (lists : List (Option (List Tier))) → count ≡ 36
+    → lists ≡ map (demand_tiers reader row structure) (range_with_len 0 count) → lists ≡ demand_periods reader row structure
 unfolding demand_periods
-all_lists readings row structure count lists all is = is ∙ ap (λ (n : ℕ). map (demand_tiers readings row structure) (range_with_len 0 n)) all
+all_lists reader row structure count lists all is = is ∙ ap (λ (n : ℕ). map (demand_tiers reader row structure) (range_with_len 0 n)) all
 
 -- there is an entry for each period
-pub demand_entries : (readings : Readings) (row : Row) (structure : Structure) (lists : List (Option (List Tier))) → lists ≡ demand_periods readings row structure
+pub demand_entries : (reader : CellReader) (row : Row) (structure : Structure) (lists : List (Option (List Tier))) → lists ≡ demand_periods reader row structure
     → length lists ≡ 36
 unfolding demand_periods
-demand_entries readings row structure lists is = rw is (length-map-range_with_len (demand_tiers readings row structure) 0 36)
+demand_entries reader row structure lists is = rw is (length-map-range_with_len (demand_tiers reader row structure) 0 36)
 
 -- prices of a period, where it is there
 prices_told : (tiers : Option (List Tier)) → IfSome tiers HasDemandPrices → ForSome tiers HasDemandPrices

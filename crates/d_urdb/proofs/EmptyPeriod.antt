@@ -2,16 +2,16 @@
 use Rattle.std.proofs.Common.{◌≡◌, ℕ, zero, suc, pos, int_lt, Bool, true, false, not, ◌&&◌, ◌||◌, List, [], ◌∷◌, Option, None, Ok, refl, ◌∙◌, inl}
 use Rattle.std.specs.List.{list_any}
 use Rattle.d_urdb.specs.declared.fault.Refused.{Refused}
-use Rattle.d_urdb.specs.declared.names.Structure.{Structure}
-use Rattle.d_urdb.specs.declared.names.Part.{Part}
-use Rattle.d_urdb.specs.declared.names.Part.TheVariants.{Max, Unit, Rate, Adj, Sell}
+use Rattle.d_columns.specs.declared.names.Structure.{Structure}
+use Rattle.d_columns.specs.declared.names.Part.{Part}
+use Rattle.d_columns.specs.declared.names.Part.TheVariants.{Max, Unit, Rate, Adj, Sell}
 use Rattle.d_urdb.specs.declared.tier_rule.TierRule.TheVariants.{Numbers, Units, Order, Sells, Falls}
-use Rattle.d_urdb.specs.Numbers.{Readings, AreReadings}
+use Rattle.d_urdb.specs.Numbers.{CellReader, IsCellReader}
 use Rattle.d_urdb.specs.Periods.{period_refusals, price_limit, price_of, is_demand}
 use Rattle.d_urdb.specs.Refusals.{first_of, each}
 use Rattle.d_urdb.specs.Checks.{Passes, tier_refusals}
-use Rattle.d_urdb.specs.Tiers.{Row, IsLeastHole, has_tier, is_hole, is_filled, part_cell}
-use Rattle.d_urdb.proofs.ReadingOnce.{number_once}
+use Rattle.d_columns.specs.Tiers.{Row, IsLeastHole, has_tier, is_hole, is_filled, part_cell}
+use Rattle.d_urdb.proofs.ReadOnce.{number_once}
 use Rattle.d_urdb.proofs.RefusalOrder.{none_before}
 use Rattle.d_urdb.proofs.PeriodChecks.{period_passes}
 
@@ -73,49 +73,49 @@ blank_cell [] blank = refl
 blank_cell (byte ∷ rest) blank = absurd (let e : true ≡ false = blank in cc)
 
 -- a blank number is 0
-zero_read : (readings : Readings) → AreReadings readings → (cell : List ℕ) → is_filled cell ≡ false → readings.number price_limit cell ≡ Ok (pos 0)
-zero_read readings are cell blank =
-    number_once price_limit cell (readings.number price_limit cell) (Ok (pos 0)) (are.number_is price_limit cell) (inl (blank_cell cell blank, refl))
+zero_read : (reader : CellReader) → IsCellReader reader → (cell : List ℕ) → is_filled cell ≡ false → reader.number price_limit cell ≡ Ok (pos 0)
+zero_read reader are cell blank =
+    number_once price_limit cell (reader.number price_limit cell) (Ok (pos 0)) (are.number_is price_limit cell) (inl (blank_cell cell blank, refl))
 
-module _ (row : Row) (structure : Structure) (period : ℕ) (none : (tier : ℕ) → has_tier row structure period tier ≡ false) (readings : Readings) (are : AreReadings readings) where
-  read : (tier : ℕ) (part : Part) → readings.number price_limit (part_cell row structure period tier part) ≡ Ok (pos 0)
-  read tier part = zero_read readings are (part_cell row structure period tier part) (blank_part row structure period tier part (none tier))
+module _ (row : Row) (structure : Structure) (period : ℕ) (none : (tier : ℕ) → has_tier row structure period tier ≡ false) (reader : CellReader) (are : IsCellReader reader) where
+  read : (tier : ℕ) (part : Part) → reader.number price_limit (part_cell row structure period tier part) ≡ Ok (pos 0)
+  read tier part = zero_read reader are (part_cell row structure period tier part) (blank_part row structure period tier part (none tier))
 
-  numbers : (tier : ℕ) → first_of (tier_refusals Numbers readings row structure period tier) ≡ None
+  numbers : (tier : ℕ) → first_of (tier_refusals Numbers reader row structure period tier) ≡ None
   unfolding first_of
   numbers tier = rw (none (suc tier), read tier Rate, read tier Adj, read tier Sell) refl
 
-  units : (tier : ℕ) → first_of (tier_refusals Units readings row structure period tier) ≡ None
+  units : (tier : ℕ) → first_of (tier_refusals Units reader row structure period tier) ≡ None
   unfolding first_of
   units tier = rw (none 1) refl
 
-  order : (tier : ℕ) → first_of (tier_refusals Order readings row structure period tier) ≡ None
+  order : (tier : ℕ) → first_of (tier_refusals Order reader row structure period tier) ≡ None
   unfolding first_of
   order tier = rw (none (suc tier)) refl
 
-  sells : (tier : ℕ) → first_of (tier_refusals Sells readings row structure period tier) ≡ None
+  sells : (tier : ℕ) → first_of (tier_refusals Sells reader row structure period tier) ≡ None
   unfolding first_of
   sells tier = rw (blank_part row structure period tier Sell (none tier)) refl
 
-  free : (tier : ℕ) → price_of readings row structure period tier ≡ pos 0
+  free : (tier : ℕ) → price_of reader row structure period tier ≡ pos 0
   free tier = rw (read tier Rate, read tier Adj) refl
 
   not_falling : (demand : Bool) → (demand && int_lt (pos 0) (pos 0)) ≡ false
   not_falling true = refl
   not_falling false = refl
 
-  falls : (tier : ℕ) → first_of (tier_refusals Falls readings row structure period tier) ≡ None
+  falls : (tier : ℕ) → first_of (tier_refusals Falls reader row structure period tier) ≡ None
   unfolding first_of
   falls tier = rw (free tier, not_falling (is_demand structure)) refl
 
 -- nothing of the period is refused
 pub empty_passes : (row : Row) (structure : Structure) (period : ℕ) → IsLeastHole row structure period None → has_tier row structure period 0 ≡ false
-    → Passes (λ readings. period_refusals readings row structure period)
+    → Passes (λ reader. period_refusals reader row structure period)
 empty_passes row structure period holes first =
     let none = all_none row structure period holes first in
     period_passes row structure period holes
-    (λ readings are. each_passes 16 (tier_refusals Numbers readings row structure period) (numbers row structure period none readings are))
-    (λ readings are. each_passes 16 (tier_refusals Units readings row structure period) (units row structure period none readings are))
-    (λ readings are. each_passes 16 (tier_refusals Order readings row structure period) (order row structure period none readings are))
-    (λ readings are. each_passes 16 (tier_refusals Sells readings row structure period) (sells row structure period none readings are))
-    (λ readings are. each_passes 16 (tier_refusals Falls readings row structure period) (falls row structure period none readings are))
+    (λ reader are. each_passes 16 (tier_refusals Numbers reader row structure period) (numbers row structure period none reader are))
+    (λ reader are. each_passes 16 (tier_refusals Units reader row structure period) (units row structure period none reader are))
+    (λ reader are. each_passes 16 (tier_refusals Order reader row structure period) (order row structure period none reader are))
+    (λ reader are. each_passes 16 (tier_refusals Sells reader row structure period) (sells row structure period none reader are))
+    (λ reader are. each_passes 16 (tier_refusals Falls reader row structure period) (falls row structure period none reader are))

@@ -8,19 +8,19 @@ use Rattle.std.proofs.lemmas.List.Elements.{All-push, All-same}
 use Rattle.d_tariff.specs.declared.period.Period.{Period}
 use Rattle.d_tariff.specs.Terms.{HasEnergyPrices}
 use Rattle.d_tier.specs.declared.tier.Tier.{Tier}
-use Rattle.d_urdb.specs.declared.names.Structure.TheVariants.{Energy}
-use Rattle.d_urdb.specs.Numbers.{Readings}
-use Rattle.d_urdb.specs.Tiers.{Row, has_tier}
+use Rattle.d_columns.specs.declared.names.Structure.TheVariants.{Energy}
+use Rattle.d_urdb.specs.Numbers.{CellReader}
+use Rattle.d_columns.specs.Tiers.{Row, has_tier}
 use Rattle.d_urdb.specs.Periods.{energy_period, energy_periods, tiers_to, sell_of}
 
 -- a period without a tier, and one with tiers
-pub no_period : (readings : Readings) (row : Row) (period : ℕ) → has_tier row Energy period 0 ≡ false → None ≡ energy_period readings row period
-no_period readings row period none = rw none refl
+pub no_period : (reader : CellReader) (row : Row) (period : ℕ) → has_tier row Energy period 0 ≡ false → None ≡ energy_period reader row period
+no_period reader row period none = rw none refl
 
-pub some_period : (readings : Readings) (row : Row) (period : ℕ) (tiers : List Tier) (sell : ℤ) → has_tier row Energy period 0 ≡ true
-    → tiers ≡ tiers_to readings row Energy period 15 → sell ≡ sell_of readings row Energy period
-    → Some (record { tiers = tiers; sell = sell }) ≡ energy_period readings row period
-some_period readings row period tiers sell there made pays = rw (there, made, pays) refl
+pub some_period : (reader : CellReader) (row : Row) (period : ℕ) (tiers : List Tier) (sell : ℤ) → has_tier row Energy period 0 ≡ true
+    → tiers ≡ tiers_to reader row Energy period 15 → sell ≡ sell_of reader row Energy period
+    → Some (record { tiers = tiers; sell = sell }) ≡ energy_period reader row period
+some_period reader row period tiers sell there made pays = rw (there, made, pays) refl
 
 -- prices of a period, where it is there
 pub prices_told : (period : Option Period) → IfSome period HasEnergyPrices → ForSome period HasEnergyPrices
@@ -28,19 +28,19 @@ prices_told None prices other is = absurd (none-some other is)
 prices_told (Some period) prices other is = let same : period ≡ other = cc in subst HasEnergyPrices same prices
 
 -- one more period
-pub period_more : (readings : Readings) (row : Row) (next : ℕ) (periods : List (Option Period)) (period : Option Period) (news : List (Option Period))
-    → news ≡ periods ++ period ∷ [] → periods ≡ map (energy_period readings row) (range_with_len 0 next) → period ≡ energy_period readings row next
-    → news ≡ map (energy_period readings row) (range_with_len 0 (next + 1))
-period_more readings row next periods period news is before here =
+pub period_more : (reader : CellReader) (row : Row) (next : ℕ) (periods : List (Option Period)) (period : Option Period) (news : List (Option Period))
+    → news ≡ periods ++ period ∷ [] → periods ≡ map (energy_period reader row) (range_with_len 0 next) → period ≡ energy_period reader row next
+    → news ≡ map (energy_period reader row) (range_with_len 0 (next + 1))
+period_more reader row next periods period news is before here =
     is ∙ ap (λ (p : Option Period). periods ++ p ∷ []) here
-    ∙ ap (λ (ps : List (Option Period)). ps ++ energy_period readings row next ∷ []) before
-    ∙ sym (map-range_with_len_more (energy_period readings row) 0 next next (omega arith))
+    ∙ ap (λ (ps : List (Option Period)). ps ++ energy_period reader row next ∷ []) before
+    ∙ sym (map-range_with_len_more (energy_period reader row) 0 next next (omega arith))
 
 -- all of them
-pub all_periods : (readings : Readings) (row : Row) (count : ℕ) (periods : List (Option Period)) → count ≡ 36
-    → periods ≡ map (energy_period readings row) (range_with_len 0 count) → periods ≡ energy_periods readings row
+pub all_periods : (reader : CellReader) (row : Row) (count : ℕ) (periods : List (Option Period)) → count ≡ 36
+    → periods ≡ map (energy_period reader row) (range_with_len 0 count) → periods ≡ energy_periods reader row
 unfolding energy_periods
-all_periods readings row count periods all is = is ∙ ap (λ (n : ℕ). map (energy_period readings row) (range_with_len 0 n)) all
+all_periods reader row count periods all is = is ∙ ap (λ (n : ℕ). map (energy_period reader row) (range_with_len 0 n)) all
 
 has_prices : Option Period → Type 0
 has_prices period = ForSome period HasEnergyPrices

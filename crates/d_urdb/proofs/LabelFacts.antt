@@ -6,9 +6,10 @@ use Rattle.std.proofs.lemmas.List.Elements.{filter_more, filter-append}
 use Rattle.std.specs.Option.{is_some}
 use Rattle.d_table.specs.Table.{column_of, cell_in, row_at, has_value}
 use Rattle.d_urdb.specs.declared.rule.RuleChoice.{RuleChoice}
-use Rattle.d_urdb.specs.Numbers.{Readings}
+use Rattle.d_urdb.specs.Numbers.{CellReader}
 use Rattle.d_urdb.specs.Refusals.{refusal}
 use Rattle.d_urdb.specs.Record.{label_name, one_row_outcome, column_outcome, record_outcome}
+use Rattle.d_urdb.specs.declared.cause.Cause.TheVariants as cause
 
 -- of the first data rows, so many of them, none has the label in this column, or this one alone
 abbrev pub IsOnly : List (List (List ℕ)) → List ℕ → ℕ → ℕ → Option ℕ → Type 0
@@ -49,26 +50,26 @@ only_here rows label column count None none within here only =
 only_here rows label column count (Some row) none within here only = let one : true ≡ false = none in absurd cc
 
 -- the outcome, by the rows that have the label
-outcome_of : (rows : List (List (List ℕ))) (label : List ℕ) (column : ℕ) (readings : Readings) (rule : RuleChoice) (found : List (List (List ℕ)))
+outcome_of : (rows : List (List (List ℕ))) (label : List ℕ) (column : ℕ) (reader : CellReader) (rule : RuleChoice) (found : List (List (List ℕ)))
     → column_of label_name (row_at rows 0) ≡ Some column → filter (has_value (Some column) label) (drop 1 rows) ≡ found
-    → record_outcome readings rows label rule ≡ one_row_outcome readings (row_at rows 0) rule found
-outcome_of rows label column readings rule found named are =
-    ap (λ o. column_outcome readings rows label rule o) named
-    ∙ ap (λ o. one_row_outcome readings (row_at rows 0) rule (filter (has_value o label) (drop 1 rows))) named
-    ∙ ap (λ found. one_row_outcome readings (row_at rows 0) rule found) are
+    → record_outcome reader rows label rule ≡ one_row_outcome reader (row_at rows 0) rule found
+outcome_of rows label column reader rule found named are =
+    ap (λ o. column_outcome reader rows label rule o) named
+    ∙ ap (λ o. one_row_outcome reader (row_at rows 0) rule (filter (has_value o label) (drop 1 rows))) named
+    ∙ ap (λ found. one_row_outcome reader (row_at rows 0) rule found) are
 
 -- a second row of the label is refused
-pub second_refused : (rows : List (List (List ℕ))) (label : List ℕ) (column count : ℕ) (found : Option ℕ) (readings : Readings) (rule : RuleChoice)
+pub second_refused : (rows : List (List (List ℕ))) (label : List ℕ) (column count : ℕ) (found : Option ℕ) (reader : CellReader) (rule : RuleChoice)
     → is_some found ≡ true → count + 1 < length rows
     → has_value (Some column) label (row_at rows (suc count)) ≡ true → IsOnly rows label column count found
     → column_of label_name (row_at rows 0) ≡ Some column
-    → record_outcome readings rows label rule ≡ Err (refusal (row_at rows 0) 2 None 0)
-second_refused rows label column count None readings rule some within here only named = let none : false ≡ true = some in absurd cc
-second_refused rows label column count (Some row) readings rule some within here only named =
+    → record_outcome reader rows label rule ≡ Err (refusal (row_at rows 0) cause.LabelTwice None 0)
+second_refused rows label column count None reader rule some within here only named = let none : false ≡ true = some in absurd cc
+second_refused rows label column count (Some row) reader rule some within here only named =
     let test = has_value (Some column) label in
     let two : filter test (take (count + 1) (drop 1 rows)) ≡ row_at rows (suc row) ∷ row_at rows (suc count) ∷ [] =
     more rows label column count true within here ∙ ap (λ xs. xs ++ row_at rows (suc count) ∷ []) only.1 in
     let all : filter test (drop 1 rows) ≡ row_at rows (suc row) ∷ row_at rows (suc count) ∷ filter test (drop (count + 1) (drop 1 rows)) =
     ap (λ xs. filter test xs) (sym (take-append-drop (count + 1) (drop 1 rows))) ∙ filter-append test (take (count + 1) (drop 1 rows)) (drop (count + 1) (drop 1 rows))
     ∙ ap (λ xs. xs ++ filter test (drop (count + 1) (drop 1 rows))) two in
-    outcome_of rows label column readings rule _ named all
+    outcome_of rows label column reader rule _ named all

@@ -10,8 +10,8 @@ use Rattle.d_text.specs.Decimal.{Written, IsDecimalText, IsSign}
 use Rattle.d_text.specs.Fault.{IsDecimalOf, IsDecimalFault, IsFloorFault}
 use Rattle.d_text.specs.declared.decimal.DecimalFault.{DecimalFault}
 use Rattle.d_text.specs.declared.decimal.DecimalFault.TheVariants.{TooLarge}
-use Rattle.d_urdb.specs.Numbers.{Readings, AreReadings, IsEnd, IsBeyond}
-use Rattle.d_urdb.proofs.ReadingOnce.{number_once, end_once}
+use Rattle.d_urdb.specs.Numbers.{CellReader, IsCellReader, IsEnd, IsBeyond}
+use Rattle.d_urdb.proofs.ReadOnce.{number_once, end_once}
 
 -- a cell that isn't empty
 pub filled : (cell : List ℕ) → false ≡ (length cell == 0) → cell ≢ []
@@ -20,16 +20,16 @@ filled (byte ∷ bytes) is same = cc
 
 -- a number that is read
 pub number_read : (limit : ℕ) (cell : List ℕ) (result : Result ℤ DecimalFault) → cell ≢ [] → IfOk result (IsDecimalOf cell 18 limit)
-    → IfErr result (IsDecimalFault cell 18 limit) → (readings : Readings) → AreReadings readings → result ≡ readings.number limit cell
-number_read limit cell (Ok value) some good bad readings are =
-    number_once limit cell (Ok value) (readings.number limit cell) (inr good) (are.number_is limit cell)
-number_read limit cell (Err fault) some good bad readings are =
-    number_once limit cell (Err fault) (readings.number limit cell) (some, bad) (are.number_is limit cell)
+    → IfErr result (IsDecimalFault cell 18 limit) → (reader : CellReader) → IsCellReader reader → result ≡ reader.number limit cell
+number_read limit cell (Ok value) some good bad reader are =
+    number_once limit cell (Ok value) (reader.number limit cell) (inr good) (are.number_is limit cell)
+number_read limit cell (Err fault) some good bad reader are =
+    number_once limit cell (Err fault) (reader.number limit cell) (some, bad) (are.number_is limit cell)
 
 -- an end that is read
-pub end_read : (cell : List ℕ) (result : Result (Option ℤ) DecimalFault) → IsEnd cell result → (readings : Readings) → AreReadings readings
-    → result ≡ readings.end cell
-end_read cell result is readings are = end_once cell result (readings.end cell) is (are.end_is cell)
+pub end_read : (cell : List ℕ) (result : Result (Option ℤ) DecimalFault) → IsEnd cell result → (reader : CellReader) → IsCellReader reader
+    → result ≡ reader.end cell
+end_read cell result is reader are = end_once cell result (reader.end cell) is (are.end_is cell)
 
 -- what begins without a sign doesn't begin with a minus
 no_minus : (before point after rest : List ℕ) → AllDigits 10 before → ((point ≡ []) × (after ≡ [])) ⊎ (point ≡ 46 ∷ []) → 0 < length (before ++ after)

@@ -6,11 +6,15 @@ use Rattle.std.specs.Str.Parse.{digits_value_after}
 use Rattle.std.proofs.lemmas.Bool.{cases_Bool}
 use Rattle.std.proofs.lemmas.Bool.Decides.{nat_tests}
 use Rattle.std.proofs.lemmas.List.{drop_more}
+use Rattle.std.proofs.lemmas.Str.{digit_value_digit}
 use Rattle.std.proofs.Math.ListN.{drop_of_length-le}
 use Rattle.d_urdb.specs.FlatMonths.{period_in}
-use Rattle.d_urdb.specs.Names.{is_digit}
+use Rattle.d_columns.specs.Names.{is_digit}
 use Rattle.d_urdb.specs.PeriodDigits.{with_digit}
-use Rattle.d_urdb.proofs.TierFacts.{digit_is}
+
+-- the value of a digit
+digit_is : (byte : ℕ) → is_digit byte ≡ true → digit_value byte + 48 ≡ byte
+digit_is byte is = digit_value_digit byte (let low : 48 ≤ byte = grind (arith, nat_tests) in let high : byte ≤ 57 = grind (arith, nat_tests) in (low, high))
 
 -- the period that a text says behind a number
 abbrev pub period_behind : ℕ → List ℕ → Option ℕ

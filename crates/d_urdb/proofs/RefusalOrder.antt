@@ -2,7 +2,7 @@
 use Rattle.std.proofs.Common.{◌≡◌, ℕ, zero, suc, ◌<◌, ◌≤◌, List, [], ◌∷◌, ◌++◌, Option, None, Some, refl, ◌∙◌, arith, inl, inr, Result, Ok, Err, ◌+◌, subst}
 use Rattle.std.proofs.lemmas.Bool.{cases_eq}
 use Rattle.d_urdb.specs.declared.fault.Refused.{Refused}
-use Rattle.d_urdb.specs.Numbers.{Readings}
+use Rattle.d_urdb.specs.Numbers.{CellReader}
 use Rattle.d_urdb.specs.Refusals.{first_of, each}
 use Rattle.d_urdb.specs.Checks.{Passes, Refuses, Checks}
 
@@ -55,33 +55,33 @@ each_none (suc n) k list below none =
     ]
 
 -- checks one after the other
-pub both_pass : (xs ys : Readings → List (Option Refused)) → Passes xs → Passes ys → Passes (λ readings. xs readings ++ ys readings)
-both_pass xs ys one other readings are = none_before (xs readings) (ys readings) (one readings are) ∙ other readings are
+pub both_pass : (xs ys : CellReader → List (Option Refused)) → Passes xs → Passes ys → Passes (λ reader. xs reader ++ ys reader)
+both_pass xs ys one other reader are = none_before (xs reader) (ys reader) (one reader are) ∙ other reader are
 
-pub first_refuses : (xs ys : Readings → List (Option Refused)) (refused : Refused) → Refuses xs refused → Refuses (λ readings. xs readings ++ ys readings) refused
-first_refuses xs ys refused one readings are = some_before (xs readings) (ys readings) refused (one readings are)
+pub first_refuses : (xs ys : CellReader → List (Option Refused)) (refused : Refused) → Refuses xs refused → Refuses (λ reader. xs reader ++ ys reader) refused
+first_refuses xs ys refused one reader are = some_before (xs reader) (ys reader) refused (one reader are)
 
-pub then_refuses : (xs ys : Readings → List (Option Refused)) (refused : Refused) → Passes xs → Refuses ys refused → Refuses (λ readings. xs readings ++ ys readings) refused
-then_refuses xs ys refused one other readings are = none_before (xs readings) (ys readings) (one readings are) ∙ other readings are
+pub then_refuses : (xs ys : CellReader → List (Option Refused)) (refused : Refused) → Passes xs → Refuses ys refused → Refuses (λ reader. xs reader ++ ys reader) refused
+then_refuses xs ys refused one other reader are = none_before (xs reader) (ys reader) (one reader are) ∙ other reader are
 
 -- a check for each of several numbers
-pub none_yet : (list : Readings → ℕ → List (Option Refused)) → Passes (λ readings. each 0 (list readings))
+pub none_yet : (list : CellReader → ℕ → List (Option Refused)) → Passes (λ reader. each 0 (list reader))
 unfolding each first_of
-none_yet list readings are = refl
+none_yet list reader are = refl
 
-pub one_more : (k : ℕ) (list : Readings → ℕ → List (Option Refused)) → Passes (λ readings. each k (list readings)) → Passes (λ readings. list readings k)
-    → Passes (λ readings. each (k + 1) (list readings))
+pub one_more : (k : ℕ) (list : CellReader → ℕ → List (Option Refused)) → Passes (λ reader. each k (list reader)) → Passes (λ reader. list reader k)
+    → Passes (λ reader. each (k + 1) (list reader))
 unfolding each
-one_more k list before here readings are =
+one_more k list before here reader are =
     let next : suc k ≡ k + 1 = omega arith in
-    subst (λ m. first_of (each m (list readings)) ≡ None) next (none_before (each k (list readings)) (list readings k) (before readings are) ∙ here readings are)
+    subst (λ m. first_of (each m (list reader)) ≡ None) next (none_before (each k (list reader)) (list reader k) (before reader are) ∙ here reader are)
 
-pub refused_here : (n k : ℕ) (list : Readings → ℕ → List (Option Refused)) (refused : Refused) → k < n → Passes (λ readings. each k (list readings))
-    → Refuses (λ readings. list readings k) refused → Refuses (λ readings. each n (list readings)) refused
-refused_here n k list refused below before here readings are = each_here n k (list readings) refused below (before readings are) (here readings are)
+pub refused_here : (n k : ℕ) (list : CellReader → ℕ → List (Option Refused)) (refused : Refused) → k < n → Passes (λ reader. each k (list reader))
+    → Refuses (λ reader. list reader k) refused → Refuses (λ reader. each n (list reader)) refused
+refused_here n k list refused below before here reader are = each_here n k (list reader) refused below (before reader are) (here reader are)
 
 -- a check after others that pass
-pub then_checks : {A : Type 0} (xs ys : Readings → List (Option Refused)) (result : Result A Refused) → Passes xs → Checks ys result
-    → Checks (λ readings. xs readings ++ ys readings) result
+pub then_checks : {A : Type 0} (xs ys : CellReader → List (Option Refused)) (result : Result A Refused) → Passes xs → Checks ys result
+    → Checks (λ reader. xs reader ++ ys reader) result
 then_checks xs ys (Ok value) one other = both_pass xs ys one other
 then_checks xs ys (Err refused) one other = then_refuses xs ys refused one other

@@ -12,10 +12,10 @@ use Rattle.d_tier.specs.declared.tier.Tier.{Tier}
 use Rattle.d_tariff.specs.declared.period.Period.{Period}
 use Rattle.d_tariff.specs.declared.charge.Charge.{Charge}
 use Rattle.d_tariff.specs.Terms.{Terms, HasEach, period_at}
-use Rattle.d_urdb.specs.declared.names.Structure.TheVariants.{Energy, Demand, FlatDemand}
+use Rattle.d_columns.specs.declared.names.Structure.TheVariants.{Energy, Demand, FlatDemand}
 use Rattle.d_urdb.specs.declared.rule.RuleChoice.{RuleChoice}
-use Rattle.d_urdb.specs.Numbers.{Readings, AreReadings, IsHours, zero_hours}
-use Rattle.d_urdb.specs.Tiers.{Row, named_cell, has_tier}
+use Rattle.d_urdb.specs.Numbers.{CellReader, IsCellReader, IsHours, zero_hours}
+use Rattle.d_columns.specs.Tiers.{Row, named_cell, has_tier}
 use Rattle.d_urdb.specs.Periods.{energy_period, energy_periods}
 use Rattle.d_urdb.specs.Hours.{hours_or_0, hours_in, occurs_in, weekday_name, weekend_name}
 use Rattle.d_urdb.specs.Energy.{HasPeriodTiers}
@@ -23,7 +23,7 @@ use Rattle.d_urdb.specs.Charges.{fixed_of, minimum_of}
 use Rattle.d_urdb.specs.Demand.{demand_periods, demand_weekday_name, demand_weekend_name}
 use Rattle.d_urdb.specs.FlatMonths.{flat_months}
 use Rattle.d_urdb.specs.Ratchets.{ratchets}
-use Rattle.d_urdb.specs.Ignored.{ignored_columns}
+use Rattle.d_columns.specs.Ignored.{ignored_columns}
 use Rattle.d_urdb.specs.Record.{row_terms, is_hourly}
 
 -- twelve months of 24 hours
@@ -39,8 +39,8 @@ hours_full cell (Ok rows) (inl (blank, is)) = subst IsFull (sym is) zero_full
 hours_full cell (Ok rows) (inr grid) = let sizes = grid-sizes cell rows grid in record { months = sizes.0; days = sizes.1 }
 hours_full cell (Err place) (some, fault) = zero_full
 
-schedule_full : (readings : Readings) → AreReadings readings → (row : Row) (name : List ℕ) → IsFull (hours_in readings row name)
-schedule_full readings are row name = hours_full (named_cell row name) (readings.hours (named_cell row name)) (are.hours_is (named_cell row name))
+schedule_full : (reader : CellReader) → IsCellReader reader → (row : Row) (name : List ℕ) → IsFull (hours_in reader row name)
+schedule_full reader are row name = hours_full (named_cell row name) (reader.hours (named_cell row name)) (are.hours_is (named_cell row name))
 
 -- the period of each of its hours occurs in a grid
 entry_occurs : (grid : List (List ℕ)) (month hour : ℕ) → IsFull grid → 1 ≤ month → month ≤ 12 → hour < 24
@@ -59,28 +59,28 @@ entry_range grid month hour range full first last within =
     range (month - 1) [] row_in hour 0 hour_in
 
 -- a period with a tier is there
-period_there : (readings : Readings) (row : Row) (period : ℕ) → period ≤ 35 → has_tier row Energy period 0 ≡ true → IsSome (period_at (energy_periods readings row) period)
+period_there : (reader : CellReader) (row : Row) (period : ℕ) → period ≤ 35 → has_tier row Energy period 0 ≡ true → IsSome (period_at (energy_periods reader row) period)
 unfolding energy_periods
-period_there readings row period within there =
-    let entry = get_or-map-range_with_len (energy_period readings row) 0 36 period period None (omega (arith, within)) (omega arith) in
+period_there reader row period within there =
+    let entry = get_or-map-range_with_len (energy_period reader row) 0 36 period period None (omega (arith, within)) (omega arith) in
     rw entry (rw there refl)
 
-each_there : (readings : Readings) (row : Row) (periods : List (Option Period)) (grid : List (List ℕ)) → periods ≡ energy_periods readings row
+each_there : (reader : CellReader) (row : Row) (periods : List (Option Period)) (grid : List (List ℕ)) → periods ≡ energy_periods reader row
     → HasPeriods grid → IsFull grid → HasPeriodTiers row grid → HasEach periods grid
-each_there readings row periods grid is range full tiers month hour first last within =
+each_there reader row periods grid is range full tiers month hour first last within =
     let entry = entry_at grid month hour in
-    rw is (period_there readings row entry (entry_range grid month hour range full first last within)
+    rw is (period_there reader row entry (entry_range grid month hour range full first last within)
     (tiers entry (entry_range grid month hour range full first last within) (entry_occurs grid month hour full first last within)))
 
 -- the hours in a column are in periods that are there
-pub hours_there : (readings : Readings) → AreReadings readings → (row : Row) (name : List ℕ) (periods : List (Option Period)) (grid : List (List ℕ))
-    → periods ≡ energy_periods readings row → grid ≡ hours_in readings row name → HasPeriods grid → HasPeriodTiers row grid → HasEach periods grid
-hours_there readings are row name periods grid is grid_is range tiers =
-    each_there readings row periods grid is range (subst IsFull (sym grid_is) (schedule_full readings are row name)) tiers
+pub hours_there : (reader : CellReader) → IsCellReader reader → (row : Row) (name : List ℕ) (periods : List (Option Period)) (grid : List (List ℕ))
+    → periods ≡ energy_periods reader row → grid ≡ hours_in reader row name → HasPeriods grid → HasPeriodTiers row grid → HasEach periods grid
+hours_there reader are row name periods grid is grid_is range tiers =
+    each_there reader row periods grid is range (subst IsFull (sym grid_is) (schedule_full reader are row name)) tiers
 
-pub entries : (readings : Readings) (row : Row) (periods : List (Option Period)) → periods ≡ energy_periods readings row → length periods ≡ 36
+pub entries : (reader : CellReader) (row : Row) (periods : List (Option Period)) → periods ≡ energy_periods reader row → length periods ≡ 36
 unfolding energy_periods
-entries readings row periods is = rw is (length-map-range_with_len (energy_period readings row) 0 36)
+entries reader row periods is = rw is (length-map-range_with_len (energy_period reader row) 0 36)
 
 -- terms by their parts
 abbrev pub terms_with : List (Option Period) → List (Option (List Tier)) → List (Option (List Tier)) → List (List ℕ) → List (List ℕ) → List (List ℕ) → List (List ℕ)
@@ -102,16 +102,16 @@ terms_with energy demand flat weekday weekend demand_weekday demand_weekend mont
 }
 
 -- terms whose parts are those of the row
-pub row_terms_are : (readings : Readings) (row : Row) (rule : RuleChoice) (energy : List (Option Period)) (demand flat : List (Option (List Tier)))
+pub row_terms_are : (reader : CellReader) (row : Row) (rule : RuleChoice) (energy : List (Option Period)) (demand flat : List (Option (List Tier)))
     (weekday weekend demand_weekday demand_weekend : List (List ℕ)) (months ratchet : List ℕ) (fixed : Charge) (minimum : Option Charge) (hourly : Bool) (ignored : List ℕ)
-    → energy ≡ energy_periods readings row → demand ≡ demand_periods readings row Demand → flat ≡ demand_periods readings row FlatDemand
-    → weekday ≡ hours_in readings row weekday_name → weekend ≡ hours_in readings row weekend_name
-    → demand_weekday ≡ hours_in readings row demand_weekday_name → demand_weekend ≡ hours_in readings row demand_weekend_name
-    → months ≡ flat_months readings row → ratchet ≡ ratchets readings row → fixed ≡ fixed_of readings row → minimum ≡ minimum_of readings row
+    → energy ≡ energy_periods reader row → demand ≡ demand_periods reader row Demand → flat ≡ demand_periods reader row FlatDemand
+    → weekday ≡ hours_in reader row weekday_name → weekend ≡ hours_in reader row weekend_name
+    → demand_weekday ≡ hours_in reader row demand_weekday_name → demand_weekend ≡ hours_in reader row demand_weekend_name
+    → months ≡ flat_months reader row → ratchet ≡ ratchets reader row → fixed ≡ fixed_of reader row → minimum ≡ minimum_of reader row
     → hourly ≡ is_hourly row rule → ignored ≡ ignored_columns row
-    → terms_with energy demand flat weekday weekend demand_weekday demand_weekend months ratchet fixed minimum hourly ignored ≡ row_terms readings row rule
+    → terms_with energy demand flat weekday weekend demand_weekday demand_weekend months ratchet fixed minimum hourly ignored ≡ row_terms reader row rule
 unfolding row_terms
-row_terms_are readings row rule energy demand flat weekday weekend demand_weekday demand_weekend months ratchet fixed minimum hourly ignored
+row_terms_are reader row rule energy demand flat weekday weekend demand_weekday demand_weekend months ratchet fixed minimum hourly ignored
     energy_is demand_is flat_is weekday_is weekend_is demand_weekday_is demand_weekend_is months_are ratchet_is fixed_is minimum_is hourly_is ignored_are =
     λ i. terms_with (energy_is i) (demand_is i) (flat_is i) (weekday_is i) (weekend_is i) (demand_weekday_is i) (demand_weekend_is i) (months_are i) (ratchet_is i)
     (fixed_is i) (minimum_is i) (hourly_is i) (ignored_are i)

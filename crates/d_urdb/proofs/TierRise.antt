@@ -9,13 +9,13 @@ use Rattle.std.proofs.lemmas.Option.{none-some}
 use Rattle.d_num.specs.Amount.{IsWithin}
 use Rattle.d_tier.specs.declared.tier.Tier.{Tier}
 use Rattle.d_tier.specs.Tables.{open_tier, with_tier, last_end_from, last_end}
-use Rattle.d_urdb.specs.declared.names.Structure.{Structure}
-use Rattle.d_urdb.specs.Numbers.{Readings, AreReadings}
-use Rattle.d_urdb.specs.Tiers.{Row, has_tier}
+use Rattle.d_columns.specs.declared.names.Structure.{Structure}
+use Rattle.d_urdb.specs.Numbers.{CellReader, IsCellReader}
+use Rattle.d_columns.specs.Tiers.{Row, has_tier}
 use Rattle.d_urdb.specs.Periods.{begin_of, end_of, price_of, is_above, tiers_to}
 use Rattle.d_urdb.specs.Values.{HasRisingEnds, HasPrices}
-use Rattle.d_urdb.proofs.HoleFacts.{one_before}
-use Rattle.d_urdb.proofs.ReadingFound.{one_reading}
+use Rattle.d_columns.proofs.HoleLaws.{one_before}
+use Rattle.d_urdb.proofs.OneReader.{one_reader}
 
 -- one more tier ends no later than where it begins
 end_from : (start end price : ℤ) (tiers : List Tier) → last_end_from start tiers ≤ℤ end → last_end_from start (with_tier end price tiers) ≤ℤ end
@@ -54,12 +54,12 @@ prices_with end price (tier ∷ next ∷ rest) within all =
     (prices_with end price (next ∷ rest) within (All-tail in_range tier (next ∷ rest) all))
 
 -- what holds of a tier that is there
-pub record Rises (readings : Readings) (row : Row) (structure : Structure) (period tier : ℕ) : Type 0 where
+pub record Rises (reader : CellReader) (row : Row) (structure : Structure) (period tier : ℕ) : Type 0 where
   pub begin : ℤ
-  pub begin_is : begin_of readings row structure period tier ≡ Some begin
+  pub begin_is : begin_of reader row structure period tier ≡ Some begin
   pub from_0 : pos 0 ≤ℤ begin
-  pub last : last_end (tiers_to readings row structure period tier) ≤ℤ begin
-  pub few : length (tiers_to readings row structure period tier) ≤ tier + 1
+  pub last : last_end (tiers_to reader row structure period tier) ≤ℤ begin
+  pub few : length (tiers_to reader row structure period tier) ≤ tier + 1
 
 -- an end above a begin is there
 pub record EndsAbove (begin : Option ℤ) (end : Option ℤ) : Type 0 where
@@ -74,17 +74,17 @@ ends_above None end is = absurd (let e : false ≡ true = is in cc)
 ends_above (Some from) None is = absurd (let e : false ≡ true = is in cc)
 ends_above (Some from) (Some to) is = record { from = from; to = to; from_is = refl; to_is = refl; above = grind (arith, ints, nat_tests) }
 
-step : (readings : Readings) (row : Row) (structure : Structure) (period tier : ℕ) → has_tier row structure period (suc tier) ≡ true
-    → is_above (begin_of readings row structure period tier) (end_of readings row structure period tier) ≡ true
-    → Rises readings row structure period tier → Rises readings row structure period (suc tier)
+step : (reader : CellReader) (row : Row) (structure : Structure) (period tier : ℕ) → has_tier row structure period (suc tier) ≡ true
+    → is_above (begin_of reader row structure period tier) (end_of reader row structure period tier) ≡ true
+    → Rises reader row structure period tier → Rises reader row structure period (suc tier)
 unfolding tiers_to
-step readings row structure period tier there above before =
+step reader row structure period tier there above before =
     let found = ends_above _ _ above in
     let same : Some found.from ≡ Some before.begin = sym found.from_is ∙ before.begin_is in
     let same_begin : found.from ≡ before.begin = cc in
-    let tiers = tiers_to readings row structure period tier in
-    let price = price_of readings row structure period (suc tier) in
-    let end : unwrap_or (end_of readings row structure period tier) (pos 0) ≡ found.to = ap (λ (o : Option ℤ). unwrap_or o (pos 0)) found.to_is in
+    let tiers = tiers_to reader row structure period tier in
+    let price = price_of reader row structure period (suc tier) in
+    let end : unwrap_or (end_of reader row structure period tier) (pos 0) ≡ found.to = ap (λ (o : Option ℤ). unwrap_or o (pos 0)) found.to_is in
     let low : last_end tiers ≤ℤ found.to = omega (arith, ints, before.last, found.above, same_begin) in
     let more = count_with found.to price tiers in
     record {
@@ -95,14 +95,14 @@ step readings row structure period tier there above before =
       few = rw (there, end) (omega (arith, more, before.few));
     }
 
-pub rises : (readings : Readings) → AreReadings readings → (row : Row) (structure : Structure) (period tier : ℕ) → HasRisingEnds row structure period
-    → tier ≤ 15 → has_tier row structure period tier ≡ true → Rises readings row structure period tier
+pub rises : (reader : CellReader) → IsCellReader reader → (row : Row) (structure : Structure) (period tier : ℕ) → HasRisingEnds row structure period
+    → tier ≤ 15 → has_tier row structure period tier ≡ true → Rises reader row structure period tier
 unfolding tiers_to
-rises readings are row structure period zero rising small there =
+rises reader are row structure period zero rising small there =
     record { begin = pos 0; begin_is = refl; from_0 = omega (arith, ints); last = omega (arith, ints); few = omega arith }
-rises readings are row structure period (suc tier) rising small there =
-    step readings row structure period tier there (rising.rising readings are tier (omega (arith, small)) there)
-    (rises readings are row structure period tier rising (omega (arith, small)) (one_before row structure period tier rising.no_hole (omega (arith, small)) there))
+rises reader are row structure period (suc tier) rising small there =
+    step reader row structure period tier there (rising.rising reader are tier (omega (arith, small)) there)
+    (rises reader are row structure period tier rising (omega (arith, small)) (one_before row structure period tier rising.no_hole (omega (arith, small)) there))
 
 -- a tier can be added behind those before it
 pub record Fits (tiers : List Tier) (end : ℤ) : Type 0 where
@@ -115,16 +115,16 @@ some_same a b same = cc
 
 pub fits : (row : Row) (structure : Structure) (period before : ℕ) (tiers : List Tier) (end : ℤ) → HasRisingEnds row structure period → before ≤ 14
     → has_tier row structure period (suc before) ≡ true
-    → ((readings : Readings) → AreReadings readings → tiers ≡ tiers_to readings row structure period before)
-    → ((readings : Readings) → AreReadings readings → Some end ≡ end_of readings row structure period before) → Fits tiers end
+    → ((reader : CellReader) → IsCellReader reader → tiers ≡ tiers_to reader row structure period before)
+    → ((reader : CellReader) → IsCellReader reader → Some end ≡ end_of reader row structure period before) → Fits tiers end
 fits row structure period before tiers end rising small there made ends =
-    let readings = one_reading.readings in
-    let are = one_reading.are in
-    let known = rises readings are row structure period before rising (omega (arith, small)) (one_before row structure period before rising.no_hole small there) in
-    let found = ends_above _ _ (rising.rising readings are before (omega (arith, small)) there) in
+    let reader = one_reader.reader in
+    let are = one_reader.is_reader in
+    let known = rises reader are row structure period before rising (omega (arith, small)) (one_before row structure period before rising.no_hole small there) in
+    let found = ends_above _ _ (rising.rising reader are before (omega (arith, small)) there) in
     let begins : found.from ≡ known.begin = some_same found.from known.begin (sym found.from_is ∙ known.begin_is) in
-    let is : end ≡ found.to = some_same end found.to (ends readings are ∙ found.to_is) in
-    let made_is = made readings are in
+    let is : end ≡ found.to = some_same end found.to (ends reader are ∙ found.to_is) in
+    let made_is = made reader are in
     let last : last_end tiers ≤ℤ known.begin = rw made_is known.last in
     let few : length tiers ≤ before + 1 = rw made_is known.few in
     record {
@@ -134,32 +134,32 @@ fits row structure period before tiers end rising small there made ends =
     }
 
 -- a tier that is added, one that isn't there, and one whose end isn't
-pub added : (readings : Readings) (row : Row) (structure : Structure) (period before : ℕ) (tiers : List Tier) (end price : ℤ)
-    → has_tier row structure period (suc before) ≡ true → tiers ≡ tiers_to readings row structure period before
-    → Some end ≡ end_of readings row structure period before → price ≡ price_of readings row structure period (suc before)
-    → with_tier end price tiers ≡ tiers_to readings row structure period (suc before)
+pub added : (reader : CellReader) (row : Row) (structure : Structure) (period before : ℕ) (tiers : List Tier) (end price : ℤ)
+    → has_tier row structure period (suc before) ≡ true → tiers ≡ tiers_to reader row structure period before
+    → Some end ≡ end_of reader row structure period before → price ≡ price_of reader row structure period (suc before)
+    → with_tier end price tiers ≡ tiers_to reader row structure period (suc before)
 unfolding tiers_to
-added readings row structure period before tiers end price there made ends costs = rw (there, ← ends, ← costs, ← made) refl
+added reader row structure period before tiers end price there made ends costs = rw (there, ← ends, ← costs, ← made) refl
 
-pub passed_by : (readings : Readings) (row : Row) (structure : Structure) (period before : ℕ) (tiers : List Tier)
-    → has_tier row structure period (suc before) ≡ false → tiers ≡ tiers_to readings row structure period before
-    → tiers ≡ tiers_to readings row structure period (suc before)
+pub passed_by : (reader : CellReader) (row : Row) (structure : Structure) (period before : ℕ) (tiers : List Tier)
+    → has_tier row structure period (suc before) ≡ false → tiers ≡ tiers_to reader row structure period before
+    → tiers ≡ tiers_to reader row structure period (suc before)
 unfolding tiers_to
-passed_by readings row structure period before tiers none made = rw none made
+passed_by reader row structure period before tiers none made = rw none made
 
 pub no_end : (row : Row) (structure : Structure) (period before : ℕ) → HasRisingEnds row structure period → before ≤ 14
     → has_tier row structure period (suc before) ≡ true
-    → ((readings : Readings) → AreReadings readings → None ≡ end_of readings row structure period before) → ⊥
+    → ((reader : CellReader) → IsCellReader reader → None ≡ end_of reader row structure period before) → ⊥
 no_end row structure period before rising small there none =
-    let readings = one_reading.readings in
-    let found = ends_above _ _ (rising.rising readings one_reading.are before (omega (arith, small)) there) in
-    let e : None ≡ Some found.to = none readings one_reading.are ∙ found.to_is in none-some found.to e
+    let reader = one_reader.reader in
+    let found = ends_above _ _ (rising.rising reader one_reader.is_reader before (omega (arith, small)) there) in
+    let e : None ≡ Some found.to = none reader one_reader.is_reader ∙ found.to_is in none-some found.to e
 
 -- the first tier alone
-pub first_tiers : (readings : Readings) (row : Row) (structure : Structure) (period : ℕ)
-    → (open_tier (price_of readings row structure period 0) ∷ []) ≡ tiers_to readings row structure period 0
+pub first_tiers : (reader : CellReader) (row : Row) (structure : Structure) (period : ℕ)
+    → (open_tier (price_of reader row structure period 0) ∷ []) ≡ tiers_to reader row structure period 0
 unfolding tiers_to
-first_tiers readings row structure period = refl
+first_tiers reader row structure period = refl
 
 pub one_price : (price : ℤ) → IsWithin (2 * 10 ^ 21) price → HasPrices (open_tier price ∷ [])
 unfolding in_range

@@ -6,11 +6,13 @@ use Rattle.d_table.specs.Table.{column_of}
 use Rattle.d_tariff.specs.declared.charge.Charge.{Charge}
 use Rattle.d_tariff.specs.declared.charge.ChargeUnit.{ChargeUnit}
 use Rattle.d_tariff.specs.declared.charge.ChargeUnit.TheVariants.{Day, Month, Year}
+use Rattle.d_urdb.specs.declared.cause.Cause.{Cause}
 use Rattle.d_urdb.specs.declared.fault.Refused.{Refused}
 use Rattle.d_urdb.specs.NamedNumbers.{name_refusal, named_number}
-use Rattle.d_urdb.specs.Numbers.{Readings}
+use Rattle.d_urdb.specs.Numbers.{CellReader}
 use Rattle.d_urdb.specs.Refusals.{refusal, when}
-use Rattle.d_urdb.specs.Tiers.{Row, named_cell, is_filled}
+use Rattle.d_columns.specs.Tiers.{Row, named_cell, is_filled}
+use Rattle.d_urdb.specs.declared.cause.Cause.TheVariants as cause
 
 -- the most USD that a charge may be in size
 abbrev pub charge_limit : ℕ
@@ -47,64 +49,57 @@ is_year (Some Year) = true
 is_year unit = false
 
 -- the amount in the column of that name, in units of 10^-18 USD
-abbrev pub amount_in : Readings → Row → List ℕ → ℤ
-amount_in readings row name = named_number readings row charge_limit name
+abbrev pub amount_in : CellReader → Row → List ℕ → ℤ
+amount_in reader row name = named_number reader row charge_limit name
 
 -- whether something is charged
-abbrev pub is_charged : Readings → Row → List ℕ → Bool
-is_charged readings row name = not (int_eq (amount_in readings row name) (pos 0))
+abbrev pub is_charged : CellReader → Row → List ℕ → Bool
+is_charged reader row name = not (int_eq (amount_in reader row name) (pos 0))
 
 -- the unit in the column of that name
 abbrev pub unit_at : Row → List ℕ → Option ChargeUnit
 unit_at row unit_name = unit_in (named_cell row unit_name)
 
 -- 20: the unit of a charge other than 0 is none
-abbrev pub unit_refusal : Readings → Row → List ℕ → List ℕ → Option Refused
-unit_refusal readings row name unit_name =
-    when (is_charged readings row name && not (is_some (unit_at row unit_name))) (refusal row.header 20 (column_of unit_name row.header) 0)
+abbrev pub unit_refusal : CellReader → Row → List ℕ → List ℕ → Option Refused
+unit_refusal reader row name unit_name =
+    when (is_charged reader row name && not (is_some (unit_at row unit_name))) (refusal row.header cause.ChargeUnit (column_of unit_name row.header) 0)
 
 -- the amount and the unit of a charge
-abbrev pub charge_refusals : Readings → Row → List ℕ → List ℕ → List (Option Refused)
-charge_refusals readings row name unit_name =
-    name_refusal readings row charge_limit name ∷ unit_refusal readings row name unit_name ∷ []
+abbrev pub charge_refusals : CellReader → Row → List ℕ → List ℕ → List (Option Refused)
+charge_refusals reader row name unit_name =
+    name_refusal reader row charge_limit name ∷ unit_refusal reader row name unit_name ∷ []
 
 -- 18: a minimum by the year isn't settled within a month
-abbrev pub yearly_refusal : Readings → Row → Option Refused
-yearly_refusal readings row =
-    when (is_charged readings row minimum_name && is_year (unit_at row minimum_unit_name))
-    (refusal row.header 18 (column_of minimum_unit_name row.header) 0)
+abbrev pub yearly_refusal : CellReader → Row → Option Refused
+yearly_refusal reader row =
+    when (is_charged reader row minimum_name && is_year (unit_at row minimum_unit_name))
+    (refusal row.header cause.AnnualMinimum (column_of minimum_unit_name row.header) 0)
 
-abbrev pub annual_refusal : Readings → Row → Option Refused
-annual_refusal readings row = when (is_charged readings row annual_name) (refusal row.header 18 (column_of annual_name row.header) 0)
-
--- an amount that has to be 0: it can't be read, or is another, which is refused by this number
-abbrev pub zero_refusals : Readings → Row → List ℕ → ℕ → List (Option Refused)
-zero_refusals readings row name number =
-    name_refusal readings row charge_limit name
-    ∷ when (is_charged readings row name) (refusal row.header number (column_of name row.header) 0)
+-- an amount that has to be 0: it can't be read, or is another, which is refused for this cause
+abbrev pub zero_refusals : CellReader → Row → List ℕ → Cause → List (Option Refused)
+zero_refusals reader row name cause_ =
+    name_refusal reader row charge_limit name
+    ∷ when (is_charged reader row name) (refusal row.header cause_ (column_of name row.header) 0)
     ∷ []
 
 -- the minimum's refusals, in order
-unfoldable pub minimum_refusals : Readings → Row → List (Option Refused)
-minimum_refusals readings row =
-    charge_refusals readings row minimum_name minimum_unit_name ++ yearly_refusal readings row ∷ []
-
--- those of the yearly minimum
-unfoldable pub annual_refusals : Readings → Row → List (Option Refused)
-annual_refusals readings row = name_refusal readings row charge_limit annual_name ∷ annual_refusal readings row ∷ []
+unfoldable pub minimum_refusals : CellReader → Row → List (Option Refused)
+minimum_refusals reader row =
+    charge_refusals reader row minimum_name minimum_unit_name ++ yearly_refusal reader row ∷ []
 
 -- a charge, in units of 10^-21 USD; one of 0 is by the month
-abbrev pub charge_of : Readings → Row → List ℕ → List ℕ → Charge
-charge_of readings row name unit_name =
-    if is_charged readings row name
-    then record { amount = amount_in readings row name *ℤ pos 1000; unit = unwrap_or (unit_at row unit_name) Month }
+abbrev pub charge_of : CellReader → Row → List ℕ → List ℕ → Charge
+charge_of reader row name unit_name =
+    if is_charged reader row name
+    then record { amount = amount_in reader row name *ℤ pos 1000; unit = unwrap_or (unit_at row unit_name) Month }
     else record { amount = pos 0; unit = Month }
 
 -- the fixed charge
-unfoldable pub fixed_of : Readings → Row → Charge
-fixed_of readings row = charge_of readings row fixed_name fixed_unit_name
+unfoldable pub fixed_of : CellReader → Row → Charge
+fixed_of reader row = charge_of reader row fixed_name fixed_unit_name
 
 -- the minimum; none where it is 0
-unfoldable pub minimum_of : Readings → Row → Option Charge
-minimum_of readings row =
-    if is_charged readings row minimum_name then Some (charge_of readings row minimum_name minimum_unit_name) else None
+unfoldable pub minimum_of : CellReader → Row → Option Charge
+minimum_of reader row =
+    if is_charged reader row minimum_name then Some (charge_of reader row minimum_name minimum_unit_name) else None

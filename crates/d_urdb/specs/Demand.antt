@@ -6,12 +6,13 @@ use Rattle.d_cal.specs.declared.schedule.Schedule.{Schedule}
 use Rattle.d_table.specs.Table.{column_of}
 use Rattle.d_tier.specs.declared.tier.Tier.{Tier}
 use Rattle.d_urdb.specs.declared.fault.Refused.{Refused}
-use Rattle.d_urdb.specs.declared.names.Structure.{Structure}
+use Rattle.d_columns.specs.declared.names.Structure.{Structure}
 use Rattle.d_urdb.specs.Hours.{grid_refusal, hours_in}
-use Rattle.d_urdb.specs.Numbers.{Readings, AreReadings}
+use Rattle.d_urdb.specs.Numbers.{CellReader, IsCellReader}
 use Rattle.d_urdb.specs.Periods.{tiers_to}
 use Rattle.d_urdb.specs.Refusals.{refusal, when}
-use Rattle.d_urdb.specs.Tiers.{Row, named_cell, has_tier, is_filled}
+use Rattle.d_columns.specs.Tiers.{Row, named_cell, has_tier, is_filled}
+use Rattle.d_urdb.specs.declared.cause.Cause.TheVariants as cause
 
 -- the columns of the hours, and of the units
 abbrev pub demand_weekday_name : List ℕ
@@ -32,22 +33,22 @@ is_kw cell = not (is_filled cell) || bytes_eq (str_to_ascii_lowercase cell) (cod
 
 -- 12: the unit of demand
 abbrev pub demand_unit_refusal : Row → List ℕ → Option Refused
-demand_unit_refusal row name = when (not (is_kw (named_cell row name))) (refusal row.header 12 (column_of name row.header) 0)
+demand_unit_refusal row name = when (not (is_kw (named_cell row name))) (refusal row.header cause.DemandUnit (column_of name row.header) 0)
 
 -- all refusals of the hours, in order; an hour in a period without a tier isn't refused
-abbrev pub demand_hours_refusals : Readings → Row → List (Option Refused)
-demand_hours_refusals readings row = grid_refusal readings row demand_weekday_name ∷ grid_refusal readings row demand_weekend_name ∷ []
+abbrev pub demand_hours_refusals : CellReader → Row → List (Option Refused)
+demand_hours_refusals reader row = grid_refusal reader row demand_weekday_name ∷ grid_refusal reader row demand_weekend_name ∷ []
 
 -- these are the hours of the row's schedules of demand
 pub record AreDemandHours (row : Row) (hours : Schedule) : Type 0 where
-  pub weekday : (readings : Readings) → AreReadings readings → hours.weekday ≡ hours_in readings row demand_weekday_name
-  pub weekend : (readings : Readings) → AreReadings readings → hours.weekend ≡ hours_in readings row demand_weekend_name
+  pub weekday : (reader : CellReader) → IsCellReader reader → hours.weekday ≡ hours_in reader row demand_weekday_name
+  pub weekend : (reader : CellReader) → IsCellReader reader → hours.weekend ≡ hours_in reader row demand_weekend_name
 
 -- the tiers of a period of demand; None where it has none
-abbrev pub demand_tiers : Readings → Row → Structure → ℕ → Option (List Tier)
-demand_tiers readings row structure period =
-    if has_tier row structure period 0 then Some (tiers_to readings row structure period 15) else None
+abbrev pub demand_tiers : CellReader → Row → Structure → ℕ → Option (List Tier)
+demand_tiers reader row structure period =
+    if has_tier row structure period 0 then Some (tiers_to reader row structure period 15) else None
 
 -- those of all periods by their numbers
-unfoldable pub demand_periods : Readings → Row → Structure → List (Option (List Tier))
-demand_periods readings row structure = map (demand_tiers readings row structure) (range_with_len 0 36)
+unfoldable pub demand_periods : CellReader → Row → Structure → List (Option (List Tier))
+demand_periods reader row structure = map (demand_tiers reader row structure) (range_with_len 0 36)

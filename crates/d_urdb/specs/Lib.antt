@@ -1,11 +1,7 @@
-pub mod Names
-pub mod Reading
 pub mod Numbers
-pub mod Tiers
 pub mod Refusals
+pub mod RefusalNames
 pub mod Periods
-pub mod Index
-pub mod Past
 pub mod Shown
 pub mod Checks
 pub mod Values
@@ -18,7 +14,6 @@ pub mod Ratchets
 pub mod Charges
 pub mod Adjustments
 pub mod Coincident
-pub mod Ignored
 pub mod Demand
 pub mod Hours
 pub mod Energy

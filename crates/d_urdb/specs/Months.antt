@@ -4,32 +4,14 @@ use Rattle.std.specs.Prelude.{ℕ, ◌+◌, ◌-◌, Bool, List, [], ◌++◌, t
 use Rattle.d_table.specs.Table.{column_of}
 use Rattle.d_text.specs.declared.items.Span.{Span}
 use Rattle.d_urdb.specs.declared.fault.Refused.{Refused}
-use Rattle.d_urdb.specs.declared.month_list.MonthList.{MonthList}
-use Rattle.d_urdb.specs.declared.month_list.MonthList.TheVariants.{FlatPeriods, Ratchets, FuelAdjustments}
-use Rattle.d_urdb.specs.Numbers.{Readings}
+use Rattle.d_columns.specs.declared.month_list.MonthList.{MonthList}
+use Rattle.d_columns.specs.declared.month_list.MonthList.TheVariants.{FlatPeriods, Ratchets, FuelAdjustments}
+use Rattle.d_urdb.specs.Numbers.{CellReader}
 use Rattle.d_urdb.specs.Periods.{fault_refusal}
 use Rattle.d_urdb.specs.Refusals.{refusal}
-use Rattle.d_urdb.specs.Tiers.{Row, named_cell, is_filled}
-
--- the column of the whole list
-abbrev pub list_name : MonthList → List ℕ
-list_name FlatPeriods = codes "flatdemandmonths"
-list_name Ratchets = codes "demandratchetpercentage"
-list_name FuelAdjustments = codes "fueladjustmentsmonthly"
-
--- how the names of the twelve columns begin
-abbrev pub month_front : MonthList → List ℕ
-month_front FlatPeriods = codes "flatdemandmonth"
-month_front Ratchets = codes "demandratchetpercentage"
-month_front FuelAdjustments = codes "fueladjustmentsmonthly"
-
--- the column of a month, from 0
-abbrev pub month_name : MonthList → ℕ → List ℕ
-month_name list month = month_front list ++ decimal (month + 1)
-
--- whether the list is in one cell
-abbrev pub is_listed : Row → MonthList → Bool
-is_listed row list = is_filled (named_cell row (list_name list))
+use Rattle.d_columns.specs.MonthLists.{list_name, month_name, is_listed}
+use Rattle.d_columns.specs.Tiers.{Row, named_cell, is_filled}
+use Rattle.d_urdb.specs.declared.cause.Cause.TheVariants as cause
 
 -- where the items stand in a cell; nowhere where it is no list
 abbrev pub spans_or_none : Result (List Span) ℕ → List Span
@@ -41,14 +23,14 @@ abbrev pub part_in : List ℕ → Span → List ℕ
 part_in cell span = take (span.to - span.from) (drop span.from cell)
 
 -- the item of a month in a cell's list
-abbrev pub listed_item : Readings → List ℕ → ℕ → List ℕ
-listed_item readings cell month =
-    part_in cell (slice_index_or (spans_or_none (readings.spans cell)) month (record { from = 0; to = 0 }))
+abbrev pub listed_item : CellReader → List ℕ → ℕ → List ℕ
+listed_item reader cell month =
+    part_in cell (slice_index_or (spans_or_none (reader.spans cell)) month (record { from = 0; to = 0 }))
 
 -- the text of a month's item
-abbrev pub item_cell : Readings → Row → MonthList → ℕ → List ℕ
-item_cell readings row list month =
-    if is_listed row list then listed_item readings (named_cell row (list_name list)) month else named_cell row (month_name list month)
+abbrev pub item_cell : CellReader → Row → MonthList → ℕ → List ℕ
+item_cell reader row list month =
+    if is_listed row list then listed_item reader (named_cell row (list_name list)) month else named_cell row (month_name list month)
 
 -- the column that a month's item stands in
 abbrev pub item_column : Row → MonthList → ℕ → Option ℕ
@@ -58,13 +40,13 @@ item_column row list month =
 -- 5: the one cell is no list of twelve items; the detail is the place
 abbrev pub split_fault : Row → MonthList → Result (List Span) ℕ → Option Refused
 split_fault row list (Ok spans) = None
-split_fault row list (Err place) = Some (refusal row.header 5 (column_of (list_name list) row.header) place)
+split_fault row list (Err place) = Some (refusal row.header cause.Grid (column_of (list_name list) row.header) place)
 
-abbrev pub list_refusal : Readings → Row → MonthList → Option Refused
-list_refusal readings row list =
-    if is_listed row list then split_fault row list (readings.spans (named_cell row (list_name list))) else None
+abbrev pub list_refusal : CellReader → Row → MonthList → Option Refused
+list_refusal reader row list =
+    if is_listed row list then split_fault row list (reader.spans (named_cell row (list_name list))) else None
 
 -- 4: a month's number can't be read
-abbrev pub item_refusal : Readings → Row → MonthList → ℕ → ℕ → Option Refused
-item_refusal readings row list limit month =
-    fault_refusal row (item_column row list month) (readings.number limit (item_cell readings row list month))
+abbrev pub item_refusal : CellReader → Row → MonthList → ℕ → ℕ → Option Refused
+item_refusal reader row list limit month =
+    fault_refusal row (item_column row list month) (reader.number limit (item_cell reader row list month))

@@ -1,4 +1,4 @@
--- How the cells of a record are read: the one reading that each cell has.
+-- How the cells of a record are read: each in one way.
 use Rattle.std.specs.Prelude.{◌≡◌, ◌≢◌, ◌⊎◌, ℕ, ◌^◌, ℤ, pos, Bool, true, false, List, [], Option, None, Some, Result, Ok, Err}
 use Rattle.std.proofs.Math.ListN.{replicate}
 use Rattle.d_text.specs.Decimal.{Written, IsDecimalText, IsFormFault, IsInLimit}
@@ -7,8 +7,8 @@ use Rattle.d_text.specs.Grid.{IsGridOf, IsGridFault, IsListOf, IsListFault}
 use Rattle.d_text.specs.declared.items.Span.{Span}
 use Rattle.d_text.specs.declared.decimal.DecimalFault.{DecimalFault}
 use Rattle.d_text.specs.declared.decimal.DecimalFault.TheVariants.{Empty, Form, TooLarge, TooFine}
-use Rattle.d_urdb.specs.declared.names.Structure.{Structure}
-use Rattle.d_urdb.specs.Tiers.{Row, IsLeastHole}
+use Rattle.d_columns.specs.declared.names.Structure.{Structure}
+use Rattle.d_columns.specs.Tiers.{Row, IsLeastHole}
 
 -- an amount of USD in units of 10^-18 USD, at most `limit` USD in size, or why the cell has none; a blank cell is 0
 abbrev pub IsNumber : ℕ → List ℕ → Result ℤ DecimalFault → Type 0
@@ -46,24 +46,28 @@ abbrev pub IsList : List ℕ → Result (List Span) ℕ → Type 0
 IsList cell (Ok spans) = IsListOf cell spans
 IsList cell (Err place) = IsListFault cell place
 
--- how all cells are read
-pub record Readings : Type 0 where
+-- a way to read all cells
+pub record CellReader : Type 0 where
   pub number : ℕ → List ℕ → Result ℤ DecimalFault
   pub end : List ℕ → Result (Option ℤ) DecimalFault
   pub hours : List ℕ → Result (List (List ℕ)) ℕ
   pub spans : List ℕ → Result (List Span) ℕ
   pub hole : Row → Structure → ℕ → Option ℕ
 
--- each cell is read as it has to be
-pub record AreReadings (readings : Readings) : Type 0 where
-  pub number_is : (limit : ℕ) (cell : List ℕ) → IsNumber limit cell (readings.number limit cell)
-  pub end_is : (cell : List ℕ) → IsEnd cell (readings.end cell)
-  pub hours_is : (cell : List ℕ) → IsHours cell (readings.hours cell)
-  pub spans_is : (cell : List ℕ) → IsList cell (readings.spans cell)
-  pub hole_is : (row : Row) (structure : Structure) (period : ℕ) → IsLeastHole row structure period (readings.hole row structure period)
+-- it reads each cell as that has to be read
+pub record IsCellReader (reader : CellReader) : Type 0 where
+  pub number_is : (limit : ℕ) (cell : List ℕ) → IsNumber limit cell (reader.number limit cell)
+  pub end_is : (cell : List ℕ) → IsEnd cell (reader.end cell)
+  pub hours_is : (cell : List ℕ) → IsHours cell (reader.hours cell)
+  pub spans_is : (cell : List ℕ) → IsList cell (reader.spans cell)
+  pub hole_is : (row : Row) (structure : Structure) (period : ℕ) → IsLeastHole row structure period (reader.hole row structure period)
+
+-- a value is this, whichever way the cells are read
+abbrev pub Reads : {A : Type 0} → (CellReader → A) → A → Type 0
+Reads value_of value = (reader : CellReader) → IsCellReader reader → value ≡ value_of reader
 
 -- there is one way to read all cells, and no other
-pub record HasOneReading : Type 0 where
-  pub readings : Readings
-  pub are : AreReadings readings
-  pub only : (others : Readings) → AreReadings others → others ≡ readings
+pub record HasOneReader : Type 0 where
+  pub reader : CellReader
+  pub is_reader : IsCellReader reader
+  pub only : (others : CellReader) → IsCellReader others → others ≡ reader

@@ -1,6 +1,6 @@
 -- The digits of a flat demand period, one after the other.
 use Rattle.std.specs.Prelude.{ℕ, ◌+◌, ◌-◌, ◌*◌, ◌&&◌, nat_lt, Option, None, Some, if◌then◌else◌}
-use Rattle.d_urdb.specs.Names.{is_digit}
+use Rattle.d_columns.specs.Names.{is_digit}
 
 -- the number with one more digit at its end; None where the byte is no digit or the number passes 35
 abbrev pub with_digit : ℕ → ℕ → Option ℕ

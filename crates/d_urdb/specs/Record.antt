@@ -4,21 +4,23 @@ use Rattle.std.specs.Prelude.{◌≡◌, ℕ, Bool, false, not, ◌&&◌, ◌||�
 use Rattle.std.specs.Str.{str_to_ascii_lowercase}
 use Rattle.d_table.specs.Table.{row_at, column_of, has_value}
 use Rattle.d_tariff.specs.Terms.{Terms}
+use Rattle.d_urdb.specs.declared.cause.Cause.{Cause}
 use Rattle.d_urdb.specs.declared.fault.Refused.{Refused}
 use Rattle.d_urdb.specs.declared.rule.RuleChoice.{RuleChoice}
 use Rattle.d_urdb.specs.declared.rule.RuleChoice.TheVariants.{AsRecorded, NetBilling}
-use Rattle.d_urdb.specs.declared.names.Structure.TheVariants.{Energy, Demand, FlatDemand}
-use Rattle.d_urdb.specs.Adjustments.{coincident_refusals, reactive_refusals, fuel_refusals}
-use Rattle.d_urdb.specs.Charges.{fixed_name, fixed_unit_name, charge_refusals, minimum_refusals, annual_refusals, fixed_of, minimum_of}
+use Rattle.d_columns.specs.declared.names.Structure.TheVariants.{Energy, Demand, FlatDemand}
+use Rattle.d_urdb.specs.Adjustments.{coincident_refusals, reactive_name, fuel_refusals}
+use Rattle.d_urdb.specs.Charges.{fixed_name, fixed_unit_name, charge_refusals, minimum_refusals, annual_name, zero_refusals, fixed_of, minimum_of}
 use Rattle.d_urdb.specs.Demand.{demand_unit_name, flat_unit_name, demand_weekday_name, demand_weekend_name, demand_unit_refusal, demand_hours_refusals, demand_periods}
 use Rattle.d_urdb.specs.FlatMonths.{month_refusals, flat_months}
 use Rattle.d_urdb.specs.Hours.{hours_refusals, hours_in, weekday_name, weekend_name}
-use Rattle.d_urdb.specs.Ignored.{ignored_columns}
-use Rattle.d_urdb.specs.Numbers.{Readings, AreReadings}
+use Rattle.d_columns.specs.Ignored.{ignored_columns}
+use Rattle.d_urdb.specs.Numbers.{CellReader, IsCellReader}
 use Rattle.d_urdb.specs.Periods.{period_refusals, energy_periods}
 use Rattle.d_urdb.specs.Ratchets.{ratchet_refusals, ratchets}
 use Rattle.d_urdb.specs.Refusals.{first_of, each, refusal, when}
-use Rattle.d_urdb.specs.Tiers.{Row, named_cell, is_filled}
+use Rattle.d_columns.specs.Tiers.{Row, named_cell, is_filled}
+use Rattle.d_urdb.specs.declared.cause.Cause.TheVariants as cause
 
 -- the column of the rule of billing
 abbrev pub rule_name : List ℕ
@@ -34,63 +36,63 @@ is_hourly row NetBilling = false
 is_hourly row AsRecorded = says_rule row (codes "net billing hourly")
 
 -- a refusal that names the column of the rule
-abbrev pub rule_refusal : Row → ℕ → Refused
-rule_refusal row number = refusal row.header number (column_of rule_name row.header) 0
+abbrev pub rule_refusal : Row → Cause → Refused
+rule_refusal row cause_ = refusal row.header cause_ (column_of rule_name row.header) 0
 
 -- 13, 14 and 21: rules that are refused by name, and texts that are no rule; nothing where net billing is chosen in the rule's place
 abbrev pub rule_refusals : Row → RuleChoice → List (Option Refused)
 rule_refusals row NetBilling = []
 rule_refusals row AsRecorded =
-    when (says_rule row (codes "net metering")) (rule_refusal row 13)
-    ∷ when (says_rule row (codes "buy all sell all")) (rule_refusal row 14)
+    when (says_rule row (codes "net metering")) (rule_refusal row cause.NetMetering)
+    ∷ when (says_rule row (codes "buy all sell all")) (rule_refusal row cause.BuyAllSellAll)
     ∷ when (is_filled (named_cell row rule_name) && not (says_rule row (codes "net billing instantaneous") || says_rule row (codes "net billing hourly")))
-    (rule_refusal row 21)
+    (rule_refusal row cause.RuleUnknown)
     ∷ []
 
 -- the refusals of the rule of billing, of the energy periods and of their hours, in order
-abbrev pub energy_section : Readings → Row → RuleChoice → List (Option Refused)
-energy_section readings row rule = rule_refusals row rule ++ (each 36 (period_refusals readings row Energy) ++ hours_refusals readings row)
+abbrev pub energy_section : CellReader → Row → RuleChoice → List (Option Refused)
+energy_section reader row rule = rule_refusals row rule ++ (each 36 (period_refusals reader row Energy) ++ hours_refusals reader row)
 
 -- those of the demand periods, of their unit and of their hours
-abbrev pub demand_section : Readings → Row → List (Option Refused)
-demand_section readings row =
-    each 36 (period_refusals readings row Demand) ++ ((demand_unit_refusal row demand_unit_name ∷ []) ++ demand_hours_refusals readings row)
+abbrev pub demand_section : CellReader → Row → List (Option Refused)
+demand_section reader row =
+    each 36 (period_refusals reader row Demand) ++ ((demand_unit_refusal row demand_unit_name ∷ []) ++ demand_hours_refusals reader row)
 
 -- those of the flat demand periods, of their unit and of their months
-abbrev pub flat_section : Readings → Row → List (Option Refused)
-flat_section readings row =
-    each 36 (period_refusals readings row FlatDemand) ++ ((demand_unit_refusal row flat_unit_name ∷ []) ++ month_refusals readings row)
+abbrev pub flat_section : CellReader → Row → List (Option Refused)
+flat_section reader row =
+    each 36 (period_refusals reader row FlatDemand) ++ ((demand_unit_refusal row flat_unit_name ∷ []) ++ month_refusals reader row)
 
 -- those of what isn't billed
-abbrev pub adjustment_section : Readings → Row → List (Option Refused)
-adjustment_section readings row = coincident_refusals readings row ++ (reactive_refusals readings row ++ fuel_refusals readings row)
+abbrev pub adjustment_section : CellReader → Row → List (Option Refused)
+adjustment_section reader row = coincident_refusals reader row ++ (zero_refusals reader row reactive_name cause.Reactive ++ fuel_refusals reader row)
 
 -- all refusals of a row, in order
-unfoldable pub row_refusals : Readings → Row → RuleChoice → List (Option Refused)
-row_refusals readings row rule =
-    energy_section readings row rule
-    ++ (demand_section readings row
-    ++ (flat_section readings row
-    ++ (ratchet_refusals readings row
-    ++ (charge_refusals readings row fixed_name fixed_unit_name
-    ++ (minimum_refusals readings row
-    ++ (annual_refusals readings row
-    ++ adjustment_section readings row))))))
+unfoldable pub row_refusals : CellReader → Row → RuleChoice → List (Option Refused)
+row_refusals reader row rule =
+    energy_section reader row rule
+    ++ (demand_section reader row
+    ++ (flat_section reader row
+    ++ (ratchet_refusals reader row
+    ++ (charge_refusals reader row fixed_name fixed_unit_name
+    ++ (minimum_refusals reader row
+    ++ (zero_refusals reader row annual_name cause.AnnualMinimum
+    ++ adjustment_section reader row))))))
 
 -- the terms of a row that isn't refused
-unfoldable pub row_terms : Readings → Row → RuleChoice → Terms
-row_terms readings row rule = record {
-  energy = energy_periods readings row;
-  demand = demand_periods readings row Demand;
-  flat = demand_periods readings row FlatDemand;
-  energy_weekday = hours_in readings row weekday_name;
-  energy_weekend = hours_in readings row weekend_name;
-  demand_weekday = hours_in readings row demand_weekday_name;
-  demand_weekend = hours_in readings row demand_weekend_name;
-  flat_months = flat_months readings row;
-  ratchet = ratchets readings row;
-  fixed = fixed_of readings row;
-  minimum = minimum_of readings row;
+unfoldable pub row_terms : CellReader → Row → RuleChoice → Terms
+row_terms reader row rule = record {
+  energy = energy_periods reader row;
+  demand = demand_periods reader row Demand;
+  flat = demand_periods reader row FlatDemand;
+  energy_weekday = hours_in reader row weekday_name;
+  energy_weekend = hours_in reader row weekend_name;
+  demand_weekday = hours_in reader row demand_weekday_name;
+  demand_weekend = hours_in reader row demand_weekend_name;
+  flat_months = flat_months reader row;
+  ratchet = ratchets reader row;
+  fixed = fixed_of reader row;
+  minimum = minimum_of reader row;
   hourly = is_hourly row rule;
   ignored = ignored_columns row;
 }
@@ -101,14 +103,14 @@ refused_or None terms = Ok terms
 refused_or (Some refused) terms = Err refused
 
 -- a row's terms or its refusal
-unfoldable pub row_outcome : Readings → Row → RuleChoice → Result Terms Refused
-row_outcome readings row rule = refused_or (first_of (row_refusals readings row rule)) (row_terms readings row rule)
+unfoldable pub row_outcome : CellReader → Row → RuleChoice → Result Terms Refused
+row_outcome reader row rule = refused_or (first_of (row_refusals reader row rule)) (row_terms reader row rule)
 
 -- 1 and 2: no row has the label, or several have it
-abbrev pub one_row_outcome : Readings → List (List ℕ) → RuleChoice → List (List (List ℕ)) → Result Terms Refused
-one_row_outcome readings header rule [] = Err (refusal header 1 None 0)
-one_row_outcome readings header rule (cells ∷ []) = row_outcome readings (record { header = header; cells = cells }) rule
-one_row_outcome readings header rule (cells ∷ others ∷ more) = Err (refusal header 2 None 0)
+abbrev pub one_row_outcome : CellReader → List (List ℕ) → RuleChoice → List (List (List ℕ)) → Result Terms Refused
+one_row_outcome reader header rule [] = Err (refusal header cause.NoLabel None 0)
+one_row_outcome reader header rule (cells ∷ []) = row_outcome reader (record { header = header; cells = cells }) rule
+one_row_outcome reader header rule (cells ∷ others ∷ more) = Err (refusal header cause.LabelTwice None 0)
 
 -- the column of the label
 abbrev pub label_name : List ℕ
@@ -119,14 +121,20 @@ abbrev pub labelled_rows : List (List (List ℕ)) → List ℕ → List (List (L
 labelled_rows rows label = filter (has_value (column_of label_name (row_at rows 0)) label) (drop 1 rows)
 
 -- 3: there is no column of labels
-abbrev pub column_outcome : Readings → List (List (List ℕ)) → List ℕ → RuleChoice → Option ℕ → Result Terms Refused
-column_outcome readings rows label rule None = Err (refusal (row_at rows 0) 3 None 0)
-column_outcome readings rows label rule (Some column) = one_row_outcome readings (row_at rows 0) rule (labelled_rows rows label)
+abbrev pub column_outcome : CellReader → List (List (List ℕ)) → List ℕ → RuleChoice → Option ℕ → Result Terms Refused
+column_outcome reader rows label rule None = Err (refusal (row_at rows 0) cause.NoColumn None 0)
+column_outcome reader rows label rule (Some column) = one_row_outcome reader (row_at rows 0) rule (labelled_rows rows label)
 
 -- the terms of the record with this label, or its refusal
-abbrev pub record_outcome : Readings → List (List (List ℕ)) → List ℕ → RuleChoice → Result Terms Refused
-record_outcome readings rows label rule = column_outcome readings rows label rule (column_of label_name (row_at rows 0))
+abbrev pub record_outcome : CellReader → List (List (List ℕ)) → List ℕ → RuleChoice → Result Terms Refused
+record_outcome reader rows label rule = column_outcome reader rows label rule (column_of label_name (row_at rows 0))
 
 -- this is the outcome of the record with this label in these rows
 abbrev pub IsOutcome : List (List (List ℕ)) → List ℕ → RuleChoice → Result Terms Refused → Type 0
-IsOutcome rows label rule outcome = (readings : Readings) × AreReadings readings × (outcome ≡ record_outcome readings rows label rule)
+IsOutcome rows label rule outcome = (reader : CellReader) × IsCellReader reader × (outcome ≡ record_outcome reader rows label rule)
+
+-- each record has one outcome, and no other
+abbrev pub HasOneOutcome : Type 0
+HasOneOutcome =
+    (rows : List (List (List ℕ))) (label : List ℕ) (rule : RuleChoice)
+    → (outcome : Result Terms Refused) × IsOutcome rows label rule outcome × ((other : Result Terms Refused) → IsOutcome rows label rule other → other ≡ outcome)

@@ -6,9 +6,10 @@ ghost use Rattle.d_num.specs.Amount.{IsWithin};
 ghost use Rattle.d_tariff.specs.Terms.{IsCharge, IsMinimum};
 ghost use Rattle.d_urdb.specs.Charges as spec;
 ghost use Rattle.d_urdb.specs.Checks.{Checks};
-ghost use Rattle.d_urdb.specs.Numbers.{Readings, AreReadings};
+ghost use Rattle.d_urdb.specs.Numbers.{Reads};
 ghost use Rattle.d_urdb.specs.Shown.{row_of};
 
+use crate::cause::Cause;
 use crate::fault::Refused;
 use crate::row::Record;
 use d_num::Money;
@@ -20,8 +21,8 @@ const CHARGE_LIMIT: u64 = 1_000_000_000;
 impl<'a> Record<'a> {
     /// The fixed charge, which is 0 by the month where there is none; or why it is refused.
     pub(crate) fn fixed_charge(&self) -> Result<Charge, Refused>
-        ensures refusals { Checks (λ readings. spec.charge_refusals readings (row_of self.now) spec.fixed_name spec.fixed_unit_name) result }
-        ensures value { IfOk result (λ charge. (readings : Readings) → AreReadings readings → charge ≡ spec.fixed_of readings (row_of self.now)) }
+        ensures refusals { Checks (λ reader. spec.charge_refusals reader (row_of self.now) spec.fixed_name spec.fixed_unit_name) result }
+        ensures value { IfOk result (Reads (λ reader. spec.fixed_of reader (row_of self.now))) }
         ensures range { IfOk result IsCharge }
     {
         self.charge(b"fixedchargefirstmeter", b"fixedchargeunits")
@@ -29,8 +30,8 @@ impl<'a> Record<'a> {
 
     /// The minimum of a bill, or None where there is none; or why it is refused. One by the year is refused.
     pub(crate) fn minimum_charge(&self) -> Result<Option<Charge>, Refused>
-        ensures refusals { Checks (λ readings. spec.minimum_refusals readings (row_of self.now)) result }
-        ensures value { IfOk result (λ minimum. (readings : Readings) → AreReadings readings → minimum ≡ spec.minimum_of readings (row_of self.now)) }
+        ensures refusals { Checks (λ reader. spec.minimum_refusals reader (row_of self.now)) result }
+        ensures value { IfOk result (Reads (λ reader. spec.minimum_of reader (row_of self.now))) }
         ensures range { IfOk result (λ minimum. ForSome minimum IsMinimum) }
     {
         let minimum = self.charge(b"mincharge", b"minchargeunits")?;
@@ -38,27 +39,20 @@ impl<'a> Record<'a> {
             return Ok(None);
         }
         if is_year(minimum.unit) {
-            let column = self.position(b"minchargeunits");
-            return Err(self.refusal(18, column, 0));
+            let column = self.cells.position(b"minchargeunits");
+            return Err(self.refusal(Cause::AnnualMinimum, column, 0));
         }
         Ok(Some(minimum))
     }
 
-    /// Tests that there is no minimum of a year's bills.
-    pub(crate) fn check_annual(&self) -> Result<(), Refused>
-        ensures { Checks (λ readings. spec.annual_refusals readings (row_of self.now)) result }
-    {
-        self.check_zero(b"annualmincharge", 18)
-    }
-
-    /// Tests that the amount in the column of that name is 0; one that isn't is refused by this number. The name is in small letters.
-    pub(crate) fn check_zero(&self, name: &[u8], number: u8) -> Result<(), Refused>
-        ensures { Checks (λ readings. spec.zero_refusals readings (row_of self.now) name.now number) result }
+    /// Tests that the amount in the column of that name is 0; one that isn't is refused for this cause. The name is in small letters.
+    pub(crate) fn check_zero(&self, name: &[u8], cause: Cause) -> Result<(), Refused>
+        ensures { Checks (λ reader. spec.zero_refusals reader (row_of self.now) name.now cause) result }
     {
         let amount = self.named_number(name, CHARGE_LIMIT)?;
         if amount != 0 {
-            let column = self.position(name);
-            return Err(self.refusal(number, column, 0));
+            let column = self.cells.position(name);
+            return Err(self.refusal(cause, column, 0));
         }
         Ok(())
     }
@@ -66,19 +60,19 @@ impl<'a> Record<'a> {
     /// The charge in the column of that name, by the unit in the other column; or why it is refused. One of 0 is by the month, whatever
     /// its unit. Both names are in small letters.
     fn charge(&self, name: &[u8], unit_name: &[u8]) -> Result<Charge, Refused>
-        ensures refusals { Checks (λ readings. spec.charge_refusals readings (row_of self.now) name.now unit_name.now) result }
-        ensures value { IfOk result (λ charge. (readings : Readings) → AreReadings readings → charge ≡ spec.charge_of readings (row_of self.now) name.now unit_name.now) }
+        ensures refusals { Checks (λ reader. spec.charge_refusals reader (row_of self.now) name.now unit_name.now) result }
+        ensures value { IfOk result (Reads (λ reader. spec.charge_of reader (row_of self.now) name.now unit_name.now)) }
         ensures range { IfOk result IsCharge }
     {
         let amount = self.named_number(name, CHARGE_LIMIT)?;
         if amount == 0 {
             return Ok(charge_of(0, ChargeUnit::Month));
         }
-        match read_unit(self.named_cell(unit_name)) {
+        match read_unit(self.cells.named_cell(unit_name)) {
             Some(unit) => Ok(charge_of(amount, unit)),
             None => {
-                let column = self.position(unit_name);
-                Err(self.refusal(20, column, 0))
+                let column = self.cells.position(unit_name);
+                Err(self.refusal(Cause::ChargeUnit, column, 0))
             }
         }
     }
@@ -104,7 +98,7 @@ fn is_year(unit: ChargeUnit) -> bool
 }
 
 /// The unit that a text says, or None where it says another. No text says the month.
-#[tactic(auto, unfolding(crate::specs::Charges::unit_in), using(crate::proofs::PastFacts::filled_cell, crate::proofs::IndexFacts::empty_cell))]
+#[tactic(auto, unfolding(crate::specs::Charges::unit_in), using(crate::proofs::MonthFacts::filled_is, crate::proofs::MonthFacts::empty_is))]
 fn read_unit(text: &[u8]) -> Option<ChargeUnit>
     ensures { result ≡ spec.unit_in text.now }
 {

@@ -2,27 +2,24 @@
 
 ghost use Rattle.std.specs.Prelude.{◌≡◌, ◌≤◌, OnOk, [], ◌∷◌, false};
 ghost use Rattle.d_urdb.specs.Shown.{row_of};
-ghost use Rattle.d_urdb.specs.Tiers.{IsLeastHole, has_tier, is_hole, part_column};
-ghost use Rattle.d_urdb.specs.Numbers.{Readings, AreReadings};
+ghost use Rattle.d_columns.specs.Tiers.{has_tier};
+ghost use Rattle.d_urdb.specs.Numbers.{Reads};
 ghost use Rattle.d_urdb.specs.Periods as spec;
 ghost use Rattle.d_urdb.specs.Values.{HasRisingEnds, HasSoundTiers};
-ghost use Rattle.d_urdb.specs.Checks.{Checks, ChecksOrNot, IsHoleCheck, IsInnerHole, tier_refusals};
+ghost use Rattle.d_urdb.specs.Checks.{Checks, ChecksOrNot, IsHoleCheck, tier_refusals};
 ghost use Rattle.d_urdb.specs.Refusals.{each};
 
+use crate::cause::Cause;
 use crate::fault::{RecordFault, Refused};
-use crate::names::{Part, Structure};
 use crate::number::{fault_detail, read_end, read_number};
-use crate::past::past_last_column;
-use crate::reading::is_named;
 use crate::row::Record;
 use crate::tier_rule::TierRule;
+use d_columns::{Part, Structure, TIERS};
+use d_table::is_named;
 use std::alloc::Global;
 
 /// The most USD per kWh or kW that a price may be in size.
 pub(crate) const PRICE_LIMIT: u64 = 1000;
-
-/// How many tiers a period has room for.
-pub(crate) const TIERS: u8 = 16;
 
 impl<'a> Record<'a> {
     /// Tests the rules of a period, in order.
@@ -33,12 +30,12 @@ impl<'a> Record<'a> {
         period: u8,
     ) -> Result<(), RecordFault>
         requires { period ≤ 35 }
-        ensures refusals { ChecksOrNot (λ readings. spec.period_refusals readings (row_of self.now) structure period) result }
+        ensures refusals { ChecksOrNot (λ reader. spec.period_refusals reader (row_of self.now) structure period) result }
         ensures rising { OnOk result (HasRisingEnds (row_of self.now) structure period) }
         ensures prices { OnOk result (HasSoundTiers (row_of self.now) structure period) }
     {
         self.check_holes(alloc, structure, period)?;
-        if !self.has_tier(structure, period, 0) {
+        if !self.cells.has_tier(structure, period, 0) {
             return Ok(());
         }
         self.check_tiers(TierRule::Numbers, structure, period)?;
@@ -59,47 +56,18 @@ impl<'a> Record<'a> {
         requires { period ≤ 35 }
         ensures { IsHoleCheck (row_of self.now) structure period result }
     {
-        if let Some(tier) = self.inner_hole(structure, period) {
-            let column = self.first_filled(structure, period, tier);
-            return Err(RecordFault::Refused(self.refusal(7, column, 0)));
-        }
-        if self.index.may_pass_last(structure, period) {
-            let found = past_last_column(alloc, self.table, self.row, structure, period)?;
-            if let Some(column) = found {
-                return Err(RecordFault::Refused(self.refusal(7, Some(column), 0)));
-            }
+        let hole = self.cells.first_hole(alloc, structure, period)?;
+        if let Some(column) = hole {
+            return Err(RecordFault::Refused(self.refusal(Cause::TierHole, Some(column), 0)));
         }
         Ok(())
-    }
-
-    /// The least of the tiers 1 to 15 that is there without the one before it.
-    fn inner_hole(&self, structure: Structure, period: u8) -> Option<u8>
-        requires { period ≤ 35 }
-        ensures { IsInnerHole (row_of self.now) structure period result }
-    {
-        for tier in 1..TIERS {
-            if self.is_hole(structure, period, tier) {
-                return Some(tier);
-            }
-        }
-        None
-    }
-
-    /// Whether one of the tiers 1 to 15 is there without the one before it.
-    fn is_hole(&self, structure: Structure, period: u8, tier: u8) -> bool
-        requires period { period ≤ 35 }
-        requires tier { (1 ≤ tier) × (tier ≤ 15) }
-        ensures { result ≡ is_hole (row_of self.now) structure period tier }
-    {
-        let before = self.has_tier(structure, period, tier - 1);
-        self.has_tier(structure, period, tier) && !before
     }
 
     /// Tests a rule for each tier of a period.
     fn check_tiers(&self, rule: TierRule, structure: Structure, period: u8) -> Result<(), Refused>
         requires period { period ≤ 35 }
         requires few { has_tier (row_of self.now) structure period 16 ≡ false }
-        ensures { Checks (λ readings. each 16 (tier_refusals rule readings (row_of self.now) structure period)) result }
+        ensures { Checks (λ reader. each 16 (tier_refusals rule reader (row_of self.now) structure period)) result }
     {
         for tier in 0..TIERS {
             self.check_tier(rule, structure, period, tier)?;
@@ -118,7 +86,7 @@ impl<'a> Record<'a> {
         requires period { period ≤ 35 }
         requires tier { tier ≤ 15 }
         requires few { has_tier (row_of self.now) structure period 16 ≡ false }
-        ensures { Checks (λ readings. tier_refusals rule readings (row_of self.now) structure period tier) result }
+        ensures { Checks (λ reader. tier_refusals rule reader (row_of self.now) structure period tier) result }
     {
         match rule {
             TierRule::Numbers => self.check_numbers(structure, period, tier),
@@ -134,7 +102,7 @@ impl<'a> Record<'a> {
         requires period { period ≤ 35 }
         requires tier { tier ≤ 15 }
         requires few { has_tier (row_of self.now) structure period 16 ≡ false }
-        ensures { Checks (λ readings. spec.number_refusals readings (row_of self.now) structure period tier) result }
+        ensures { Checks (λ reader. spec.number_refusals reader (row_of self.now) structure period tier) result }
     {
         self.check_end(structure, period, tier)?;
         self.check_number(structure, period, tier, Part::Rate)?;
@@ -147,16 +115,16 @@ impl<'a> Record<'a> {
         requires period { period ≤ 35 }
         requires tier { tier ≤ 15 }
         requires few { has_tier (row_of self.now) structure period 16 ≡ false }
-        ensures { Checks (λ readings. spec.end_refusal readings (row_of self.now) structure period tier ∷ []) result }
+        ensures { Checks (λ reader. spec.end_refusal reader (row_of self.now) structure period tier ∷ []) result }
     {
         if self.is_last(structure, period, tier) {
             return Ok(());
         }
-        match read_end(self.part_cell(structure, period, tier, Part::Max)) {
+        match read_end(self.cells.part_cell(structure, period, tier, Part::Max)) {
             Ok(_) => Ok(()),
             Err(fault) => {
-                let column = self.part_column(structure, period, tier, Part::Max);
-                Err(self.refusal(4, column, fault_detail(fault)))
+                let column = self.cells.part_column(structure, period, tier, Part::Max);
+                Err(self.refusal(Cause::Decimal, column, fault_detail(fault)))
             }
         }
     }
@@ -171,13 +139,16 @@ impl<'a> Record<'a> {
     ) -> Result<(), Refused>
         requires period { period ≤ 35 }
         requires tier { tier ≤ 15 }
-        ensures { Checks (λ readings. spec.price_refusal readings (row_of self.now) structure period tier part ∷ []) result }
+        ensures { Checks (λ reader. spec.price_refusal reader (row_of self.now) structure period tier part ∷ []) result }
     {
-        match read_number(self.part_cell(structure, period, tier, part), PRICE_LIMIT) {
+        match read_number(
+            self.cells.part_cell(structure, period, tier, part),
+            PRICE_LIMIT,
+        ) {
             Ok(_) => Ok(()),
             Err(fault) => {
-                let column = self.part_column(structure, period, tier, part);
-                Err(self.refusal(4, column, fault_detail(fault)))
+                let column = self.cells.part_column(structure, period, tier, part);
+                Err(self.refusal(Cause::Decimal, column, fault_detail(fault)))
             }
         }
     }
@@ -189,18 +160,18 @@ impl<'a> Record<'a> {
         requires few { has_tier (row_of self.now) structure period 16 ≡ false }
         ensures { result ≡ spec.is_last (row_of self.now) structure period tier }
     {
-        tier + 1 == TIERS || !self.has_tier(structure, period, tier + 1)
+        tier + 1 == TIERS || !self.cells.has_tier(structure, period, tier + 1)
     }
 
     /// Tests the unit of a tier.
     fn check_unit(&self, structure: Structure, period: u8, tier: u8) -> Result<(), Refused>
         requires period { period ≤ 35 }
         requires tier { tier ≤ 15 }
-        ensures { Checks (λ readings. spec.unit_refusal (row_of self.now) structure period tier ∷ []) result }
+        ensures { Checks (λ reader. spec.unit_refusal (row_of self.now) structure period tier ∷ []) result }
     {
         if self.has_other_unit(structure, period, tier) {
-            let column = self.part_column(structure, period, tier, Part::Unit);
-            return Err(self.refusal(9, column, 0));
+            let column = self.cells.part_column(structure, period, tier, Part::Unit);
+            return Err(self.refusal(Cause::TierUnit, column, 0));
         }
         Ok(())
     }
@@ -211,8 +182,8 @@ impl<'a> Record<'a> {
         requires tier { tier ≤ 15 }
         ensures { result ≡ spec.has_other_unit (row_of self.now) structure period tier }
     {
-        self.has_tier(structure, period, 1)
-            && !is_kwh(self.part_cell(structure, period, tier, Part::Unit))
+        self.cells.has_tier(structure, period, 1)
+            && !is_kwh(self.cells.part_cell(structure, period, tier, Part::Unit))
     }
 
     /// Tests that a tier ends above where it begins, unless it is the last.
@@ -220,11 +191,11 @@ impl<'a> Record<'a> {
         requires period { period ≤ 35 }
         requires tier { tier ≤ 15 }
         requires few { has_tier (row_of self.now) structure period 16 ≡ false }
-        ensures { Checks (λ readings. spec.order_refusal readings (row_of self.now) structure period tier ∷ []) result }
+        ensures { Checks (λ reader. spec.order_refusal reader (row_of self.now) structure period tier ∷ []) result }
     {
         if self.breaks_order(structure, period, tier) {
-            let column = self.part_column(structure, period, tier, Part::Max);
-            return Err(self.refusal(8, column, 0));
+            let column = self.cells.part_column(structure, period, tier, Part::Max);
+            return Err(self.refusal(Cause::TierOrder, column, 0));
         }
         Ok(())
     }
@@ -234,7 +205,7 @@ impl<'a> Record<'a> {
         requires period { period ≤ 35 }
         requires tier { tier ≤ 15 }
         requires few { has_tier (row_of self.now) structure period 16 ≡ false }
-        ensures { (readings : Readings) → AreReadings readings → result ≡ spec.breaks_order readings (row_of self.now) structure period tier }
+        ensures { Reads (λ reader. spec.breaks_order reader (row_of self.now) structure period tier) result }
     {
         if self.is_last(structure, period, tier) {
             return false;
@@ -248,11 +219,11 @@ impl<'a> Record<'a> {
     fn check_sell(&self, structure: Structure, period: u8, tier: u8) -> Result<(), Refused>
         requires period { period ≤ 35 }
         requires tier { tier ≤ 15 }
-        ensures { Checks (λ readings. spec.sell_refusal readings (row_of self.now) structure period tier ∷ []) result }
+        ensures { Checks (λ reader. spec.sell_refusal reader (row_of self.now) structure period tier ∷ []) result }
     {
         if self.has_other_sell(structure, period, tier) {
-            let column = self.part_column(structure, period, tier, Part::Sell);
-            return Err(self.refusal(10, column, 0));
+            let column = self.cells.part_column(structure, period, tier, Part::Sell);
+            return Err(self.refusal(Cause::SellTiers, column, 0));
         }
         Ok(())
     }
@@ -261,9 +232,9 @@ impl<'a> Record<'a> {
     fn has_other_sell(&self, structure: Structure, period: u8, tier: u8) -> bool
         requires period { period ≤ 35 }
         requires tier { tier ≤ 15 }
-        ensures { (readings : Readings) → AreReadings readings → result ≡ spec.has_other_sell readings (row_of self.now) structure period tier }
+        ensures { Reads (λ reader. spec.has_other_sell reader (row_of self.now) structure period tier) result }
     {
-        if !self.is_filled(structure, period, tier, Part::Sell) {
+        if !self.cells.is_filled(structure, period, tier, Part::Sell) {
             return false;
         }
         let price = self.price_in(structure, period, tier, Part::Sell);
@@ -275,12 +246,12 @@ impl<'a> Record<'a> {
     fn check_fall(&self, structure: Structure, period: u8, tier: u8) -> Result<(), Refused>
         requires period { period ≤ 35 }
         requires tier { tier ≤ 15 }
-        ensures { Checks (λ readings. spec.fall_refusal readings (row_of self.now) structure period tier ∷ []) result }
+        ensures { Checks (λ reader. spec.fall_refusal reader (row_of self.now) structure period tier ∷ []) result }
     {
         if self.has_negative_price(structure, period, tier) {
-            let added = self.part_column(structure, period, tier, Part::Adj);
-            let rate = self.part_column(structure, period, tier, Part::Rate);
-            return Err(self.refusal(11, added.or(rate), 0));
+            let added = self.cells.part_column(structure, period, tier, Part::Adj);
+            let rate = self.cells.part_column(structure, period, tier, Part::Rate);
+            return Err(self.refusal(Cause::DemandFalls, added.or(rate), 0));
         }
         Ok(())
     }
@@ -289,9 +260,9 @@ impl<'a> Record<'a> {
     fn has_negative_price(&self, structure: Structure, period: u8, tier: u8) -> bool
         requires period { period ≤ 35 }
         requires tier { tier ≤ 15 }
-        ensures { (readings : Readings) → AreReadings readings → result ≡ spec.has_negative_price readings (row_of self.now) structure period tier }
+        ensures { Reads (λ reader. spec.has_negative_price reader (row_of self.now) structure period tier) result }
     {
-        if !structure.is_demand() {
+        if !is_demand(structure) {
             return false;
         }
         self.price_of(structure, period, tier).units() < 0
@@ -306,6 +277,13 @@ fn is_above(begin: Option<i64>, end: Option<i64>) -> bool
         (Some(begin), Some(end)) => begin < end,
         _ => false,
     }
+}
+
+/// Whether what the structure prices is never paid for, so that no price of it may be below 0.
+fn is_demand(structure: Structure) -> bool
+    ensures { result ≡ spec.is_demand structure }
+{
+    matches!(structure, Structure::Demand | Structure::FlatDemand)
 }
 
 /// Whether the cell is an accepted unit of a tier.

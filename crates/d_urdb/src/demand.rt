@@ -6,18 +6,18 @@ ghost use Rattle.d_tariff.specs.Terms.{HasDemandPrices};
 ghost use Rattle.d_urdb.specs.Checks.{Checks};
 ghost use Rattle.d_urdb.specs.Demand as spec;
 ghost use Rattle.d_urdb.specs.Energy.{HasRisingPeriods};
-ghost use Rattle.d_urdb.specs.Numbers.{Readings, AreReadings};
+ghost use Rattle.d_urdb.specs.Numbers.{Reads};
 ghost use Rattle.d_urdb.specs.Periods.{is_demand};
 ghost use Rattle.d_urdb.specs.Shown.{row_of};
 ghost use Rattle.d_urdb.specs.Values.{HasRisingEnds, HasSoundTiers, HasSoundPrices};
 
+use crate::cause::Cause;
 use crate::fault::Refused;
-use crate::hours::PERIODS;
-use crate::names::Structure;
-use crate::reading::is_named;
 use crate::row::Record;
 use d_cal::Schedule;
+use d_columns::{PERIODS, Structure};
 use d_num::NoMemory;
+use d_table::is_named;
 use d_tariff::TierLists;
 use d_tier::Tiers;
 use std::alloc::Global;
@@ -25,18 +25,18 @@ use std::alloc::Global;
 impl<'a> Record<'a> {
     /// Tests that the unit in the column of that name, which is in small letters, is kW or none.
     pub(crate) fn check_demand_unit(&self, name: &[u8]) -> Result<(), Refused>
-        ensures { Checks (λ readings. spec.demand_unit_refusal (row_of self.now) name.now ∷ []) result }
+        ensures { Checks (λ reader. spec.demand_unit_refusal (row_of self.now) name.now ∷ []) result }
     {
-        if !is_kw(self.named_cell(name)) {
-            let column = self.position(name);
-            return Err(self.refusal(12, column, 0));
+        if !is_kw(self.cells.named_cell(name)) {
+            let column = self.cells.position(name);
+            return Err(self.refusal(Cause::DemandUnit, column, 0));
         }
         Ok(())
     }
 
     /// The hours of the schedules of demand, or why there are none. An hour may be in a period without a tier.
     pub(crate) fn demand_hours(&self) -> Result<Schedule, Refused>
-        ensures refusals { Checks (λ readings. spec.demand_hours_refusals readings (row_of self.now)) result }
+        ensures refusals { Checks (λ reader. spec.demand_hours_refusals reader (row_of self.now)) result }
         ensures hours { IfOk result (spec.AreDemandHours (row_of self.now)) }
     {
         let weekday = self.hours(b"demandweekdayschedule")?;
@@ -53,7 +53,7 @@ impl<'a> Record<'a> {
         requires rising { HasRisingPeriods (row_of self.now) structure }
         requires prices { HasSoundPrices (row_of self.now) structure }
         requires demand { is_demand structure ≡ true }
-        ensures value { IfOk result (λ lists. (readings : Readings) → AreReadings readings → lists ≡ spec.demand_periods readings (row_of self.now) structure) }
+        ensures value { IfOk result (Reads (λ reader. spec.demand_periods reader (row_of self.now) structure)) }
         ensures prices { IfOk result (λ lists. All (λ tiers. ForSome tiers HasDemandPrices) lists) }
     {
         let mut lists = TierLists::new(alloc);
@@ -69,10 +69,10 @@ impl<'a> Record<'a> {
         requires rising { HasRisingEnds (row_of self.now) structure period }
         requires prices { HasSoundTiers (row_of self.now) structure period }
         requires demand { is_demand structure ≡ true }
-        ensures value { (readings : Readings) → AreReadings readings → result ≡ spec.demand_tiers readings (row_of self.now) structure period }
+        ensures value { Reads (λ reader. spec.demand_tiers reader (row_of self.now) structure period) result }
         ensures prices { IfSome result HasDemandPrices }
     {
-        if !self.has_tier(structure, period, 0) {
+        if !self.cells.has_tier(structure, period, 0) {
             return None;
         }
         Some(self.tiers(structure, period))

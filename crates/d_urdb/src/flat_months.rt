@@ -4,24 +4,22 @@ ghost use Rattle.std.specs.Prelude.{◌≡◌, ◌<◌, ◌≤◌, ◌∷◌, []
 ghost use Rattle.d_urdb.specs.Checks.{Checks};
 ghost use Rattle.d_urdb.specs.FlatMonths as spec;
 ghost use Rattle.d_urdb.specs.Items.{AreItemsOf};
-ghost use Rattle.d_urdb.specs.Numbers.{Readings, AreReadings};
+ghost use Rattle.d_urdb.specs.Numbers.{Reads};
 ghost use Rattle.d_urdb.specs.PeriodDigits.{with_digit};
 ghost use Rattle.d_urdb.specs.Refusals.{each};
 ghost use Rattle.d_urdb.specs.Shown.{row_of};
 
+use crate::cause::Cause;
 use crate::fault::Refused;
-use crate::month_list::MonthList;
 use crate::months::Items;
 use crate::row::Record;
-
-// How many flat demand periods there are.
-const PERIODS: u16 = 36;
+use d_columns::{MonthList, PERIODS};
 
 impl<'a> Record<'a> {
     /// The flat demand period of each month, or why there are none.
     pub(crate) fn flat_months(&self) -> Result<[u8; 12], Refused>
-        ensures refusals { Checks (λ readings. spec.month_refusals readings (row_of self.now)) result }
-        ensures value { IfOk result (λ months. (readings : Readings) → AreReadings readings → months ≡ spec.flat_months readings (row_of self.now)) }
+        ensures refusals { Checks (λ reader. spec.month_refusals reader (row_of self.now)) result }
+        ensures value { IfOk result (Reads (λ reader. spec.flat_months reader (row_of self.now))) }
         ensures range { IfOk result (All (λ period. period ≤ 35)) }
     {
         let items = self.items(MonthList::FlatPeriods)?;
@@ -31,8 +29,8 @@ impl<'a> Record<'a> {
     /// The periods that the items say.
     fn periods_of(&self, items: &Items) -> Result<[u8; 12], Refused>
         requires { AreItemsOf (row_of self.now) MonthList.FlatPeriods items.now }
-        ensures refusals { Checks (λ readings. each 12 (λ month. spec.month_refusal readings (row_of self.now) month ∷ [])) result }
-        ensures value { IfOk result (λ months. (readings : Readings) → AreReadings readings → months ≡ spec.flat_months readings (row_of self.now)) }
+        ensures refusals { Checks (λ reader. each 12 (λ month. spec.month_refusal reader (row_of self.now) month ∷ [])) result }
+        ensures value { IfOk result (Reads (λ reader. spec.flat_months reader (row_of self.now))) }
         ensures range { IfOk result (All (λ period. period ≤ 35)) }
     {
         let mut months = [0; 12];
@@ -46,15 +44,15 @@ impl<'a> Record<'a> {
     fn period_of(&self, items: &Items, month: u8) -> Result<u8, Refused>
         requires month { month < 12 }
         requires items { AreItemsOf (row_of self.now) MonthList.FlatPeriods items.now }
-        ensures refusals { Checks (λ readings. spec.month_refusal readings (row_of self.now) month ∷ []) result }
-        ensures value { IfOk result (λ period. (readings : Readings) → AreReadings readings → period ≡ spec.flat_month readings (row_of self.now) month) }
+        ensures refusals { Checks (λ reader. spec.month_refusal reader (row_of self.now) month ∷ []) result }
+        ensures value { IfOk result (Reads (λ reader. spec.flat_month reader (row_of self.now) month)) }
         ensures range { IfOk result (λ period. period ≤ 35) }
     {
         match read_period(self.item(items, month)) {
             Some(period) => Ok(period),
             None => {
                 let column = self.item_column(items, month);
-                Err(self.refusal(5, column, 0))
+                Err(self.refusal(Cause::Grid, column, 0))
             }
         }
     }
@@ -85,7 +83,7 @@ fn with_digit(number: u8, byte: u8) -> Option<u8>
         return None;
     }
     let next = u16::from(number) * 10 + u16::from(byte - b'0');
-    if next < PERIODS {
+    if next < u16::from(PERIODS) {
         Some(next as u8)
     } else {
         None

@@ -3,25 +3,23 @@
 ghost use Rattle.std.specs.Prelude.{◌≡◌, ◌≤◌, ◌==◌, [], ◌∷◌, ◌&&◌, ◌||◌, not, IfOk, All};
 ghost use Rattle.std.specs.List.{list_any};
 ghost use Rattle.d_urdb.specs.Shown.{row_of};
-ghost use Rattle.d_urdb.specs.Numbers.{Readings, AreReadings};
-ghost use Rattle.d_urdb.specs.Tiers.{has_tier};
+ghost use Rattle.d_urdb.specs.Numbers.{Reads};
+ghost use Rattle.d_columns.specs.Tiers.{has_tier};
 ghost use Rattle.d_urdb.specs.Checks.{Checks};
 ghost use Rattle.d_urdb.specs.Hours as spec;
 ghost use Rattle.d_urdb.specs.Energy.{AreEnergyHours};
 
+use crate::cause::Cause;
 use crate::fault::Refused;
-use crate::names::Structure;
 use crate::row::Record;
 use d_cal::Schedule;
+use d_columns::{PERIODS, Structure};
 use d_text::read_grid;
-
-/// How many energy periods there are.
-pub(crate) const PERIODS: u8 = 36;
 
 impl<'a> Record<'a> {
     /// The hours of the energy schedules, each in a period that has a tier, or why there are none.
     pub(crate) fn energy_hours(&self) -> Result<Schedule, Refused>
-        ensures refusals { Checks (λ readings. spec.hours_refusals readings (row_of self.now)) result }
+        ensures refusals { Checks (λ reader. spec.hours_refusals reader (row_of self.now)) result }
         ensures hours { IfOk result (AreEnergyHours (row_of self.now)) }
     {
         let weekday = self.hours(b"energyweekdayschedule")?;
@@ -33,20 +31,20 @@ impl<'a> Record<'a> {
     /// The period of each hour in the column of that name, which is in small letters, or why its cell is no grid. A blank cell is
     /// period 0 everywhere.
     pub(crate) fn hours(&self, name: &[u8]) -> Result<[[u8; 24]; 12], Refused>
-        ensures refusals { Checks (λ readings. spec.grid_refusal readings (row_of self.now) name.now ∷ []) result }
-        ensures value { IfOk result (λ hours. (readings : Readings) → AreReadings readings → hours ≡ spec.hours_in readings (row_of self.now) name.now) }
+        ensures refusals { Checks (λ reader. spec.grid_refusal reader (row_of self.now) name.now ∷ []) result }
+        ensures value { IfOk result (Reads (λ reader. spec.hours_in reader (row_of self.now) name.now)) }
         ensures range { IfOk result (All (All (λ period. period ≤ 35))) }
     {
         let mut hours = [[0; 24]; 12];
-        let cell = self.named_cell(name);
+        let cell = self.cells.named_cell(name);
         if cell.is_empty() {
             return Ok(hours);
         }
         match read_grid(cell, &mut hours) {
             Ok(()) => Ok(hours),
             Err(fault) => {
-                let column = self.position(name);
-                Err(self.refusal(5, column, fault.place as u64))
+                let column = self.cells.position(name);
+                Err(self.refusal(Cause::Grid, column, fault.place as u64))
             }
         }
     }
@@ -57,11 +55,11 @@ impl<'a> Record<'a> {
         weekday: &[[u8; 24]; 12],
         weekend: &[[u8; 24]; 12],
     ) -> Result<(), Refused>
-        ensures { Checks (λ readings. spec.missing_refusals (row_of self.now) weekday.now weekend.now) result }
+        ensures { Checks (λ reader. spec.missing_refusals (row_of self.now) weekday.now weekend.now) result }
     {
         for period in 0..PERIODS {
             if self.is_missing(period, weekday, weekend) {
-                return Err(self.refusal(6, None, u64::from(period)));
+                return Err(self.refusal(Cause::EnergyMissing, None, u64::from(period)));
             }
         }
         Ok(())
@@ -70,10 +68,10 @@ impl<'a> Record<'a> {
     /// Whether an hour is in this period, and the period has no tier.
     fn is_missing(&self, period: u8, weekday: &[[u8; 24]; 12], weekend: &[[u8; 24]; 12]) -> bool
         requires { period ≤ 35 }
-        ensures { result ≡ ((spec.occurs_in period weekday.now || spec.occurs_in period weekend.now) && not (has_tier (row_of self.now) Structure.Energy period 0)) }
+        ensures { result ≡ spec.is_missing (row_of self.now) weekday.now weekend.now period }
     {
         (occurs(period, weekday) || occurs(period, weekend))
-            && !self.has_tier(Structure::Energy, period, 0)
+            && !self.cells.has_tier(Structure::Energy, period, 0)
     }
 }
 

@@ -1,8 +1,13 @@
-//! What holds of all cells of a record.
+//! What holds of all records.
 
-ghost use Rattle.d_urdb.specs.Numbers.{HasOneReading};
+ghost use Rattle.d_urdb.specs.FlatMonths.{ReadsAsInGrids};
+ghost use Rattle.d_urdb.specs.Numbers.{HasOneReader};
+ghost use Rattle.d_urdb.specs.Record.{HasOneOutcome};
 
-/// Each cell of a record is read in exactly one way, so that a record has exactly one outcome.
+/// Each cell of a record is read in exactly one way, so that each record, by its label and the rule of billing, has exactly one outcome.
+/// A period is written in a list of months as it is in a grid of hours.
 pub fn reads_once()
-    ensures { HasOneReading }
+    ensures cells { HasOneReader }
+    ensures outcome { HasOneOutcome }
+    ensures periods { ReadsAsInGrids }
 {}

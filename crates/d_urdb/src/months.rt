@@ -1,65 +1,20 @@
 //! The lists that have an item for each month.
 
-ghost use Rattle.std.specs.Prelude.{◌≡◌, ◌<◌, ◌≤◌, ◌*◌, ◌^◌, ◌∷◌, [], All, length, map, IfOk, IfSome};
+ghost use Rattle.std.specs.Prelude.{◌≡◌, ◌<◌, ◌≤◌, ◌*◌, ◌^◌, ◌∷◌, [], All, length, IfOk, IfSome};
 ghost use Rattle.d_num.specs.Amount.{IsWithin};
 ghost use Rattle.d_urdb.specs.Checks.{Checks};
-ghost use Rattle.d_urdb.specs.Items.{month_names, item_number, AreItemsOf, AreNumbersOf};
+ghost use Rattle.d_urdb.specs.Items.{item_number, AreItemsOf, AreNumbers};
 ghost use Rattle.d_urdb.specs.Months as spec;
-ghost use Rattle.d_urdb.specs.Numbers.{Readings, AreReadings};
+ghost use Rattle.d_urdb.specs.Numbers.{Reads};
 ghost use Rattle.d_urdb.specs.Refusals.{each};
 ghost use Rattle.d_urdb.specs.Shown.{row_of};
 
+use crate::cause::Cause;
 use crate::fault::Refused;
-use crate::month_list::MonthList;
 use crate::number::{fault_detail, read_number};
 use crate::row::Record;
+use d_columns::MonthList;
 use d_text::{Span, split_list};
-
-// The columns of the months, in small letters.
-const FLAT_NAMES: [&[u8]; 12] = [
-    b"flatdemandmonth1",
-    b"flatdemandmonth2",
-    b"flatdemandmonth3",
-    b"flatdemandmonth4",
-    b"flatdemandmonth5",
-    b"flatdemandmonth6",
-    b"flatdemandmonth7",
-    b"flatdemandmonth8",
-    b"flatdemandmonth9",
-    b"flatdemandmonth10",
-    b"flatdemandmonth11",
-    b"flatdemandmonth12",
-];
-
-const RATCHET_NAMES: [&[u8]; 12] = [
-    b"demandratchetpercentage1",
-    b"demandratchetpercentage2",
-    b"demandratchetpercentage3",
-    b"demandratchetpercentage4",
-    b"demandratchetpercentage5",
-    b"demandratchetpercentage6",
-    b"demandratchetpercentage7",
-    b"demandratchetpercentage8",
-    b"demandratchetpercentage9",
-    b"demandratchetpercentage10",
-    b"demandratchetpercentage11",
-    b"demandratchetpercentage12",
-];
-
-const FUEL_NAMES: [&[u8]; 12] = [
-    b"fueladjustmentsmonthly1",
-    b"fueladjustmentsmonthly2",
-    b"fueladjustmentsmonthly3",
-    b"fueladjustmentsmonthly4",
-    b"fueladjustmentsmonthly5",
-    b"fueladjustmentsmonthly6",
-    b"fueladjustmentsmonthly7",
-    b"fueladjustmentsmonthly8",
-    b"fueladjustmentsmonthly9",
-    b"fueladjustmentsmonthly10",
-    b"fueladjustmentsmonthly11",
-    b"fueladjustmentsmonthly12",
-];
 
 /// Where the items of a list stand: in parts of its one cell, or in twelve columns where there are no parts.
 #[derive(Clone, Copy)]
@@ -68,40 +23,14 @@ pub(crate) struct Items {
     pub spans: Option<[Span; 12]>,
 }
 
-impl MonthList {
-    /// The column of the whole list.
-    pub(crate) fn list_name(self) -> &'static [u8]
-        ensures value { result.now ≡ spec.list_name self }
-        ensures length { length result.now ≤ 23 }
-    {
-        match self {
-            MonthList::FlatPeriods => b"flatdemandmonths",
-            MonthList::Ratchets => b"demandratchetpercentage",
-            MonthList::FuelAdjustments => b"fueladjustmentsmonthly",
-        }
-    }
-
-    /// The column of a month, from 0.
-    pub(crate) fn month_name(self, month: u8) -> &'static [u8]
-        requires { month < 12 }
-        ensures { result.now ≡ spec.month_name self month }
-    {
-        match self {
-            MonthList::FlatPeriods => name_at(self, &FLAT_NAMES, month),
-            MonthList::Ratchets => name_at(self, &RATCHET_NAMES, month),
-            MonthList::FuelAdjustments => name_at(self, &FUEL_NAMES, month),
-        }
-    }
-}
-
 impl<'a> Record<'a> {
     /// Where the items of a list stand, or why its one cell is no list of twelve items.
     pub(crate) fn items(&self, list: MonthList) -> Result<Items, Refused>
-        ensures refusals { Checks (λ readings. spec.list_refusal readings (row_of self.now) list ∷ []) result }
+        ensures refusals { Checks (λ reader. spec.list_refusal reader (row_of self.now) list ∷ []) result }
         ensures items { IfOk result (AreItemsOf (row_of self.now) list) }
     {
         let name = list.list_name();
-        let cell = self.named_cell(name);
+        let cell = self.cells.named_cell(name);
         if cell.is_empty() {
             return Ok(Items { list, spans: None });
         }
@@ -113,8 +42,8 @@ impl<'a> Record<'a> {
                 spans: Some(spans),
             }),
             Err(fault) => {
-                let column = self.position(name);
-                Err(self.refusal(5, column, fault.place as u64))
+                let column = self.cells.position(name);
+                Err(self.refusal(Cause::Grid, column, fault.place as u64))
             }
         }
     }
@@ -123,14 +52,14 @@ impl<'a> Record<'a> {
     pub(crate) fn item(&self, items: &Items, month: u8) -> &[u8]
         requires month { month < 12 }
         requires items { AreItemsOf (row_of self.now) items.now.list items.now }
-        ensures { (readings : Readings) → AreReadings readings → result.now ≡ spec.item_cell readings (row_of self.now) items.now.list month }
+        ensures { Reads (λ reader. spec.item_cell reader (row_of self.now) items.now.list month) result.now }
     {
         match items.spans {
             Some(spans) => {
                 let span = spans[usize::from(month)];
-                &self.named_cell(items.list.list_name())[span.from..span.to]
+                &self.cells.named_cell(items.list.list_name())[span.from..span.to]
             }
-            None => self.named_cell(items.list.month_name(month)),
+            None => self.cells.named_cell(items.list.month_name(month)),
         }
     }
 
@@ -142,8 +71,8 @@ impl<'a> Record<'a> {
         ensures within { IfSome result (λ column. column < length (row_of self.now).header) }
     {
         match items.spans {
-            Some(_) => self.position(items.list.list_name()),
-            None => self.position(items.list.month_name(month)),
+            Some(_) => self.cells.position(items.list.list_name()),
+            None => self.cells.position(items.list.month_name(month)),
         }
     }
 
@@ -152,15 +81,15 @@ impl<'a> Record<'a> {
         requires month { month < 12 }
         requires limit { limit ≤ 10 ^ 10 }
         requires items { AreItemsOf (row_of self.now) items.now.list items.now }
-        ensures refusals { Checks (λ readings. spec.item_refusal readings (row_of self.now) items.now.list limit month ∷ []) result }
-        ensures value { IfOk result (λ units. (readings : Readings) → AreReadings readings → units ≡ item_number readings (row_of self.now) items.now.list limit month) }
+        ensures refusals { Checks (λ reader. spec.item_refusal reader (row_of self.now) items.now.list limit month ∷ []) result }
+        ensures value { IfOk result (Reads (λ reader. item_number reader (row_of self.now) items.now.list limit month)) }
         ensures range { IfOk result (IsWithin (limit * 10 ^ 18)) }
     {
         match read_number(self.item(items, month), limit) {
             Ok(units) => Ok(units),
             Err(fault) => {
                 let column = self.item_column(items, month);
-                Err(self.refusal(4, column, fault_detail(fault)))
+                Err(self.refusal(Cause::Decimal, column, fault_detail(fault)))
             }
         }
     }
@@ -169,8 +98,8 @@ impl<'a> Record<'a> {
     pub(crate) fn item_numbers(&self, items: &Items, limit: u64) -> Result<[i128; 12], Refused>
         requires limit { limit ≤ 10 ^ 10 }
         requires items { AreItemsOf (row_of self.now) items.now.list items.now }
-        ensures refusals { Checks (λ readings. each 12 (λ month. spec.item_refusal readings (row_of self.now) items.now.list limit month ∷ [])) result }
-        ensures value { IfOk result (λ numbers. (readings : Readings) → AreReadings readings → AreNumbersOf readings (row_of self.now) items.now.list limit numbers) }
+        ensures refusals { Checks (λ reader. each 12 (λ month. spec.item_refusal reader (row_of self.now) items.now.list limit month ∷ [])) result }
+        ensures value { IfOk result (AreNumbers (row_of self.now) items.now.list limit) }
         ensures range { IfOk result (All (IsWithin (limit * 10 ^ 18))) }
     {
         let mut numbers = [0; 12];
@@ -179,13 +108,4 @@ impl<'a> Record<'a> {
         }
         Ok(numbers)
     }
-}
-
-/// The column of a month in a table of a list's twelve.
-fn name_at(list: MonthList, names: &[&'static [u8]; 12], month: u8) -> &'static [u8]
-    requires month { month < 12 }
-    requires names { map (λ name. name.now) names.now ≡ month_names list }
-    ensures { result.now ≡ spec.month_name list month }
-{
-    names[usize::from(month)]
 }

@@ -4,9 +4,10 @@ ghost use Rattle.std.specs.Prelude.{◌≡◌, ◌≤◌, ◌*◌, ◌^◌, [], 
 ghost use Rattle.d_num.specs.Amount.{IsWithin};
 ghost use Rattle.d_urdb.specs.Checks.{Checks};
 ghost use Rattle.d_urdb.specs.NamedNumbers as spec;
-ghost use Rattle.d_urdb.specs.Numbers.{Readings, AreReadings};
+ghost use Rattle.d_urdb.specs.Numbers.{Reads};
 ghost use Rattle.d_urdb.specs.Shown.{row_of};
 
+use crate::cause::Cause;
 use crate::fault::Refused;
 use crate::number::{fault_detail, read_number};
 use crate::row::Record;
@@ -16,15 +17,15 @@ impl<'a> Record<'a> {
     /// cell is blank or there is no such column. The name is in small letters.
     pub(crate) fn named_number(&self, name: &[u8], limit: u64) -> Result<i128, Refused>
         requires limit { limit ≤ 10 ^ 10 }
-        ensures refusals { Checks (λ readings. spec.name_refusal readings (row_of self.now) limit name.now ∷ []) result }
-        ensures value { IfOk result (λ units. (readings : Readings) → AreReadings readings → units ≡ spec.named_number readings (row_of self.now) limit name.now) }
+        ensures refusals { Checks (λ reader. spec.name_refusal reader (row_of self.now) limit name.now ∷ []) result }
+        ensures value { IfOk result (Reads (λ reader. spec.named_number reader (row_of self.now) limit name.now)) }
         ensures range { IfOk result (IsWithin (limit * 10 ^ 18)) }
     {
-        match read_number(self.named_cell(name), limit) {
+        match read_number(self.cells.named_cell(name), limit) {
             Ok(units) => Ok(units),
             Err(fault) => {
-                let column = self.position(name);
-                Err(self.refusal(4, column, fault_detail(fault)))
+                let column = self.cells.position(name);
+                Err(self.refusal(Cause::Decimal, column, fault_detail(fault)))
             }
         }
     }

@@ -3,7 +3,7 @@
 ghost use Rattle.std.specs.Prelude.{◌≡◌, ◌≤◌, ◌*◌, ◌^◌, IfOk, IfSome};
 ghost use Rattle.d_num.specs.Amount.{IsWithin};
 ghost use Rattle.d_urdb.specs.Refusals.{detail_of};
-ghost use Rattle.d_urdb.specs.Numbers.{Readings, AreReadings};
+ghost use Rattle.d_urdb.specs.Numbers.{Reads};
 
 use d_text::{DecimalFault, read_decimal, read_floor};
 
@@ -13,7 +13,7 @@ const END_LIMIT: u64 = 10_000_000_000;
 /// The amount in a cell in units of 10^-18 USD, at most `limit` USD in size. A blank cell is 0.
 pub(crate) fn read_number(cell: &[u8], limit: u64) -> Result<i128, DecimalFault>
     requires { limit ≤ 10 ^ 10 }
-    ensures value { (readings : Readings) → AreReadings readings → result ≡ readings.number limit cell.now }
+    ensures value { Reads (λ reader. reader.number limit cell.now) result }
     ensures range { IfOk result (IsWithin (limit * 10 ^ 18)) }
 {
     if cell.is_empty() {
@@ -24,7 +24,7 @@ pub(crate) fn read_number(cell: &[u8], limit: u64) -> Result<i128, DecimalFault>
 
 /// Where a tier ends, in whole Wh or W, or None where it has no end, that is above 10^10 kWh or kW. A blank cell is 0.
 pub(crate) fn read_end(cell: &[u8]) -> Result<Option<i64>, DecimalFault>
-    ensures value { (readings : Readings) → AreReadings readings → result ≡ readings.end cell.now }
+    ensures value { Reads (λ reader. reader.end cell.now) result }
     ensures range { IfOk result (λ end. IfSome end (IsWithin (10 ^ 13))) }
 {
     if cell.is_empty() {

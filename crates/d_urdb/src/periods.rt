@@ -9,9 +9,8 @@ ghost use Rattle.d_urdb.specs.Energy.{HasRisingPeriods};
 ghost use Rattle.d_urdb.specs.Values.{HasSoundPrices};
 
 use crate::fault::RecordFault;
-use crate::hours::PERIODS;
-use crate::names::Structure;
 use crate::row::Record;
+use d_columns::{PERIODS, Structure};
 use std::alloc::Global;
 
 impl<'a> Record<'a> {
@@ -21,7 +20,7 @@ impl<'a> Record<'a> {
         alloc: Global,
         structure: Structure,
     ) -> Result<(), RecordFault>
-        ensures refusals { ChecksOrNot (λ readings. each 36 (period_refusals readings (row_of self.now) structure)) result }
+        ensures refusals { ChecksOrNot (λ reader. each 36 (period_refusals reader (row_of self.now) structure)) result }
         ensures rising { OnOk result (HasRisingPeriods (row_of self.now) structure) }
         ensures prices { OnOk result (HasSoundPrices (row_of self.now) structure) }
     {

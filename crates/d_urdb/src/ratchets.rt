@@ -3,17 +3,18 @@
 ghost use Rattle.std.specs.Prelude.{◌≡◌, ℤ, ◌<◌, ◌≤◌, ◌*◌, ◌^◌, ◌∷◌, [], All, IfOk};
 ghost use Rattle.d_num.specs.Amount.{IsWithin};
 ghost use Rattle.d_urdb.specs.Checks.{Checks};
-ghost use Rattle.d_urdb.specs.Items.{AreItemsOf, AreNumbersOf};
+ghost use Rattle.d_urdb.specs.Items.{AreItemsOf, AreNumbers};
 ghost use Rattle.d_urdb.specs.NamedNumbers.{named_number};
-ghost use Rattle.d_urdb.specs.Numbers.{Readings, AreReadings};
+ghost use Rattle.d_urdb.specs.Numbers.{Reads};
 ghost use Rattle.d_urdb.specs.Ratchets as spec;
 ghost use Rattle.d_urdb.specs.Refusals.{each};
 ghost use Rattle.d_urdb.specs.Shown.{row_of};
 
+use crate::cause::Cause;
 use crate::fault::Refused;
-use crate::month_list::MonthList;
 use crate::months::Items;
 use crate::row::Record;
+use d_columns::MonthList;
 
 // The most that a fraction or a percent may be.
 const FRACTION_LIMIT: u64 = 100;
@@ -24,8 +25,8 @@ const ONE: u128 = 1_000_000_000_000_000_000;
 impl<'a> Record<'a> {
     /// The fraction of each month in units of 10^-20, or why there are none.
     pub(crate) fn ratchets(&self) -> Result<[u128; 12], Refused>
-        ensures refusals { Checks (λ readings. spec.ratchet_refusals readings (row_of self.now)) result }
-        ensures value { IfOk result (λ fractions. (readings : Readings) → AreReadings readings → fractions ≡ spec.ratchets readings (row_of self.now)) }
+        ensures refusals { Checks (λ reader. spec.ratchet_refusals reader (row_of self.now)) result }
+        ensures value { IfOk result (Reads (λ reader. spec.ratchets reader (row_of self.now))) }
         ensures range { IfOk result (All (λ fraction. fraction ≤ 10 ^ 20)) }
     {
         let items = self.items(MonthList::Ratchets)?;
@@ -39,14 +40,14 @@ impl<'a> Record<'a> {
     /// Tests that no month's number is below 0.
     fn check_fractions(&self, items: &Items, numbers: &[i128; 12]) -> Result<(), Refused>
         requires items { AreItemsOf (row_of self.now) MonthList.Ratchets items.now }
-        requires numbers { (readings : Readings) → AreReadings readings → AreNumbersOf readings (row_of self.now) MonthList.Ratchets 100 numbers.now }
+        requires numbers { AreNumbers (row_of self.now) MonthList.Ratchets 100 numbers.now }
         requires small { All (IsWithin (100 * 10 ^ 18)) numbers.now }
-        ensures { Checks (λ readings. each 12 (λ month. spec.fraction_refusal readings (row_of self.now) month ∷ [])) result }
+        ensures { Checks (λ reader. each 12 (λ month. spec.fraction_refusal reader (row_of self.now) month ∷ [])) result }
     {
         for month in 0..12 {
             if numbers[usize::from(month)] < 0 {
                 let column = self.item_column(items, month);
-                return Err(self.refusal(22, column, 0));
+                return Err(self.refusal(Cause::Fraction, column, 0));
             }
         }
         Ok(())
@@ -54,13 +55,13 @@ impl<'a> Record<'a> {
 
     /// Tests that the number of all months that have none of their own isn't below 0.
     fn check_lookback(&self, lookback: i128) -> Result<(), Refused>
-        requires number { (readings : Readings) → AreReadings readings → lookback ≡ named_number readings (row_of self.now) 100 spec.lookback_name }
+        requires number { Reads (λ reader. named_number reader (row_of self.now) 100 spec.lookback_name) lookback }
         requires limit { IsWithin (100 * 10 ^ 18) lookback }
-        ensures { Checks (λ readings. spec.lookback_refusal readings (row_of self.now) ∷ []) result }
+        ensures { Checks (λ reader. spec.lookback_refusal reader (row_of self.now) ∷ []) result }
     {
         if lookback < 0 {
-            let column = self.position(b"lookbackpercent");
-            return Err(self.refusal(22, column, 0));
+            let column = self.cells.position(b"lookbackpercent");
+            return Err(self.refusal(Cause::Fraction, column, 0));
         }
         Ok(())
     }
@@ -68,11 +69,11 @@ impl<'a> Record<'a> {
     /// The fraction of each month by the months' numbers and that of all months that have none of their own.
     fn fractions(&self, items: &Items, numbers: &[i128; 12], lookback: i128) -> [u128; 12]
         requires items { AreItemsOf (row_of self.now) MonthList.Ratchets items.now }
-        requires numbers { (readings : Readings) → AreReadings readings → AreNumbersOf readings (row_of self.now) MonthList.Ratchets 100 numbers.now }
+        requires numbers { AreNumbers (row_of self.now) MonthList.Ratchets 100 numbers.now }
         requires small { All (IsWithin (100 * 10 ^ 18)) numbers.now }
-        requires lookback { (readings : Readings) → AreReadings readings → lookback ≡ named_number readings (row_of self.now) 100 spec.lookback_name }
+        requires lookback { Reads (λ reader. named_number reader (row_of self.now) 100 spec.lookback_name) lookback }
         requires limit { IsWithin (100 * 10 ^ 18) lookback }
-        ensures value { (readings : Readings) → AreReadings readings → result ≡ spec.ratchets readings (row_of self.now) }
+        ensures value { Reads (λ reader. spec.ratchets reader (row_of self.now)) result }
         ensures range { All (λ fraction. fraction ≤ 10 ^ 20) result }
     {
         let mut fractions = [0; 12];
@@ -87,11 +88,11 @@ impl<'a> Record<'a> {
     fn fraction(&self, items: &Items, month: u8, number: i128, lookback: i128) -> u128
         requires month { month < 12 }
         requires items { AreItemsOf (row_of self.now) MonthList.Ratchets items.now }
-        requires number { (readings : Readings) → AreReadings readings → number ≡ spec.month_number readings (row_of self.now) month }
+        requires number { Reads (λ reader. spec.month_number reader (row_of self.now) month) number }
         requires small { IsWithin (100 * 10 ^ 18) number }
-        requires lookback { (readings : Readings) → AreReadings readings → lookback ≡ named_number readings (row_of self.now) 100 spec.lookback_name }
+        requires lookback { Reads (λ reader. named_number reader (row_of self.now) 100 spec.lookback_name) lookback }
         requires limit { IsWithin (100 * 10 ^ 18) lookback }
-        ensures value { (readings : Readings) → AreReadings readings → result ≡ spec.ratchet_of readings (row_of self.now) month }
+        ensures value { Reads (λ reader. spec.ratchet_of reader (row_of self.now) month) result }
         ensures range { result ≤ 10 ^ 20 }
     {
         if self.item(items, month).is_empty() {

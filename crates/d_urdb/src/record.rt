@@ -8,19 +8,19 @@ ghost use Rattle.d_urdb.specs.Checks.{Checks, ChecksOrNot};
 ghost use Rattle.d_urdb.specs.Demand.{AreDemandHours};
 ghost use Rattle.d_urdb.specs.Energy.{HasRisingPeriods, AreEnergyHours};
 ghost use Rattle.d_urdb.specs.FlatMonths.{flat_months};
-ghost use Rattle.d_urdb.specs.Numbers.{Readings, AreReadings};
+ghost use Rattle.d_urdb.specs.Numbers.{Reads};
 ghost use Rattle.d_urdb.specs.Record.{IsOutcome, row_refusals, energy_section, demand_section, flat_section, adjustment_section};
 ghost use Rattle.d_urdb.specs.Values.{HasSoundPrices};
 ghost use Rattle.d_urdb.specs.declared.fault.RecordFault.TheVariants as variant;
 
+use crate::cause::Cause;
 use crate::fault::{RecordFault, Refused};
-use crate::index::TierIndex;
 use crate::label::find_row;
-use crate::names::Structure;
 use crate::row::Record;
 use crate::rule::RuleChoice;
 use crate::terms::Accepted;
 use d_cal::Schedule;
+use d_columns::{Cells, Structure};
 use d_table::Table;
 use d_tariff::Tariff;
 use std::alloc::Global;
@@ -50,8 +50,8 @@ pub fn read_record(
     ensures refused { IfErr result (λ fault. (refused : _) → fault ≡ variant.Refused refused → IsOutcome table.now label.now rule (Err refused)) }
 {
     let row = find_row(table, label)?;
-    let index = TierIndex::new(alloc, table, row)?;
-    let record = Record { table, row, index };
+    let cells = Cells::new(alloc, table, row)?;
+    let record = Record { cells };
     let accepted = record.check_row(alloc, rule)?;
     let tariff = record.tariff(alloc, rule, accepted)?;
     Ok(tariff)
@@ -60,7 +60,7 @@ pub fn read_record(
 impl<'a> Record<'a> {
     /// Tests all rules of the row, in order, and answers what was read on the way.
     fn check_row(&self, alloc: Global, rule: RuleChoice) -> Result<Accepted, RecordFault>
-        ensures refusals { ChecksOrNot (λ readings. row_refusals readings (row_of self.now) rule) result }
+        ensures refusals { ChecksOrNot (λ reader. row_refusals reader (row_of self.now) rule) result }
         ensures accepted { IfOk result (IsAccepted (row_of self.now)) }
     {
         let energy_hours = self.check_energy(alloc, rule)?;
@@ -69,7 +69,7 @@ impl<'a> Record<'a> {
         let ratchet = self.ratchets()?;
         let fixed = self.fixed_charge()?;
         let minimum = self.minimum_charge()?;
-        self.check_annual()?;
+        self.check_zero(b"annualmincharge", Cause::AnnualMinimum)?;
         self.check_adjustments()?;
         Ok(Accepted {
             energy_hours,
@@ -83,7 +83,7 @@ impl<'a> Record<'a> {
 
     /// Tests the rule of billing, the energy periods and their hours, and answers the hours.
     fn check_energy(&self, alloc: Global, rule: RuleChoice) -> Result<Schedule, RecordFault>
-        ensures refusals { ChecksOrNot (λ readings. energy_section readings (row_of self.now) rule) result }
+        ensures refusals { ChecksOrNot (λ reader. energy_section reader (row_of self.now) rule) result }
         ensures rising { OnOk result (HasRisingPeriods (row_of self.now) Structure.Energy) }
         ensures hours { IfOk result (AreEnergyHours (row_of self.now)) }
     {
@@ -95,7 +95,7 @@ impl<'a> Record<'a> {
 
     /// Tests the demand periods, their unit and their hours, and answers the hours.
     fn check_demand(&self, alloc: Global) -> Result<Schedule, RecordFault>
-        ensures refusals { ChecksOrNot (λ readings. demand_section readings (row_of self.now)) result }
+        ensures refusals { ChecksOrNot (λ reader. demand_section reader (row_of self.now)) result }
         ensures rising { OnOk result (HasRisingPeriods (row_of self.now) Structure.Demand) }
         ensures prices { OnOk result (HasSoundPrices (row_of self.now) Structure.Demand) }
         ensures hours { IfOk result (AreDemandHours (row_of self.now)) }
@@ -108,10 +108,10 @@ impl<'a> Record<'a> {
 
     /// Tests the flat demand periods, their unit and their months, and answers the months.
     fn check_flat_demand(&self, alloc: Global) -> Result<[u8; 12], RecordFault>
-        ensures refusals { ChecksOrNot (λ readings. flat_section readings (row_of self.now)) result }
+        ensures refusals { ChecksOrNot (λ reader. flat_section reader (row_of self.now)) result }
         ensures rising { OnOk result (HasRisingPeriods (row_of self.now) Structure.FlatDemand) }
         ensures prices { OnOk result (HasSoundPrices (row_of self.now) Structure.FlatDemand) }
-        ensures value { IfOk result (λ months. (readings : Readings) → AreReadings readings → months ≡ flat_months readings (row_of self.now)) }
+        ensures value { IfOk result (Reads (λ reader. flat_months reader (row_of self.now))) }
         ensures range { IfOk result (All (λ number. number ≤ 35)) }
     {
         self.check_periods(alloc, Structure::FlatDemand)?;
@@ -122,10 +122,10 @@ impl<'a> Record<'a> {
 
     /// Tests that nothing is said of what isn't billed.
     fn check_adjustments(&self) -> Result<(), Refused>
-        ensures { Checks (λ readings. adjustment_section readings (row_of self.now)) result }
+        ensures { Checks (λ reader. adjustment_section reader (row_of self.now)) result }
     {
         self.check_coincident()?;
-        self.check_reactive()?;
+        self.check_zero(b"demandreactivepowercharge", Cause::Reactive)?;
         self.check_fuel()
     }
 }

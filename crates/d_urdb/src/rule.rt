@@ -5,11 +5,12 @@ ghost use Rattle.d_urdb.specs.declared.rule.RuleChoice.TheVariants.{AsRecorded};
 ghost use Rattle.d_urdb.specs.Checks.{Checks};
 ghost use Rattle.d_urdb.specs.Record as spec;
 ghost use Rattle.d_urdb.specs.Shown.{row_of};
-ghost use Rattle.d_urdb.specs.Tiers.{named_cell, is_filled};
+ghost use Rattle.d_columns.specs.Tiers.{named_cell, is_filled};
 
+use crate::cause::Cause;
 use crate::fault::Refused;
-use crate::reading::is_named;
 use crate::row::Record;
+use d_table::is_named;
 
 /// Which rule a record is planned by.
 #[derive(Clone, Copy, PartialEq, Eq, Debug)]
@@ -24,7 +25,7 @@ impl<'a> Record<'a> {
     /// Tests the record's rule of billing.
     #[tactic(auto, unfolding(crate::specs::Refusals::first_of))]
     pub(crate) fn check_rule(&self, rule: RuleChoice) -> Result<(), Refused>
-        ensures { Checks (λ readings. spec.rule_refusals (row_of self.now) rule) result }
+        ensures { Checks (λ reader. spec.rule_refusals (row_of self.now) rule) result }
     {
         match rule {
             RuleChoice::AsRecorded => self.check_recorded_rule(),
@@ -42,16 +43,16 @@ impl<'a> Record<'a> {
     /// Tests the rule that the record says.
     #[tactic(auto, unfolding(crate::specs::Refusals::first_of))]
     fn check_recorded_rule(&self) -> Result<(), Refused>
-        ensures { Checks (λ readings. spec.rule_refusals (row_of self.now) AsRecorded) result }
+        ensures { Checks (λ reader. spec.rule_refusals (row_of self.now) AsRecorded) result }
     {
         if self.says_rule(b"net metering") {
-            return Err(self.rule_refusal(13));
+            return Err(self.rule_refusal(Cause::NetMetering));
         }
         if self.says_rule(b"buy all sell all") {
-            return Err(self.rule_refusal(14));
+            return Err(self.rule_refusal(Cause::BuyAllSellAll));
         }
         if self.says_unknown_rule() {
-            return Err(self.rule_refusal(21));
+            return Err(self.rule_refusal(Cause::RuleUnknown));
         }
         Ok(())
     }
@@ -61,7 +62,7 @@ impl<'a> Record<'a> {
         ensures { result ≡ (is_filled (named_cell (row_of self.now) spec.rule_name)
             && not (spec.says_rule (row_of self.now) (codes "net billing instantaneous") || spec.says_rule (row_of self.now) (codes "net billing hourly"))) }
     {
-        !self.named_cell(b"dgrules").is_empty()
+        !self.cells.named_cell(b"dgrules").is_empty()
             && !self.says_rule(b"net billing instantaneous")
             && !self.says_rule(b"net billing hourly")
     }
@@ -70,13 +71,13 @@ impl<'a> Record<'a> {
     fn says_rule(&self, text: &[u8]) -> bool
         ensures { result ≡ spec.says_rule (row_of self.now) text.now }
     {
-        is_named(self.named_cell(b"dgrules"), text)
+        is_named(self.cells.named_cell(b"dgrules"), text)
     }
 
     /// A refusal that names the column of the rule.
-    fn rule_refusal(&self, number: u8) -> Refused
-        ensures { result ≡ spec.rule_refusal (row_of self.now) number }
+    fn rule_refusal(&self, cause: Cause) -> Refused
+        ensures { result ≡ spec.rule_refusal (row_of self.now) cause }
     {
-        self.refusal(number, self.position(b"dgrules"), 0)
+        self.refusal(cause, self.cells.position(b"dgrules"), 0)
     }
 }

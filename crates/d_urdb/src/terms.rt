@@ -3,14 +3,14 @@
 ghost use Rattle.std.specs.Prelude.{◌≡◌, IfOk};
 ghost use Rattle.d_tariff.specs.Shown.{terms_of};
 ghost use Rattle.d_urdb.specs.Accepted.{IsAccepted};
-ghost use Rattle.d_urdb.specs.Numbers.{Readings, AreReadings};
+ghost use Rattle.d_urdb.specs.Numbers.{Reads};
 ghost use Rattle.d_urdb.specs.Shown.{row_of};
 ghost use Rattle.d_urdb.specs.Record.{row_terms};
 
-use crate::names::Structure;
 use crate::row::Record;
 use crate::rule::RuleChoice;
 use d_cal::Schedule;
+use d_columns::Structure;
 use d_num::NoMemory;
 use d_tariff::{Charge, Tariff};
 use std::alloc::Global;
@@ -35,7 +35,7 @@ impl<'a> Record<'a> {
         accepted: Accepted,
     ) -> Result<Tariff, NoMemory>
         requires { IsAccepted (row_of self.now) accepted }
-        ensures { IfOk result (λ tariff. (readings : Readings) → AreReadings readings → terms_of tariff ≡ row_terms readings (row_of self.now) rule) }
+        ensures { IfOk result (λ tariff. Reads (λ reader. row_terms reader (row_of self.now) rule) (terms_of tariff)) }
     {
         Ok(Tariff {
             energy: self.energy_periods(alloc)?,

@@ -1,7 +1,7 @@
 //! The rules that the tiers of a period keep.
 
 /// One of the rules that each tier of a period keeps, in the order in which they are tested.
-#[derive(Clone, Copy, PartialEq, Eq, Debug)]
+#[derive(Clone, Copy)]
 pub(crate) enum TierRule {
     /// Its numbers can be read.
     Numbers,

@@ -5,32 +5,33 @@ ghost use Rattle.std.specs.Option.{ForSome};
 ghost use Rattle.std.specs.List.{range_with_len};
 ghost use Rattle.d_num.specs.Amount.{IsWithin};
 ghost use Rattle.d_tariff.specs.Terms.{HasEnergyPrices};
-ghost use Rattle.d_urdb.specs.Numbers.{Readings, AreReadings};
+ghost use Rattle.d_urdb.specs.Numbers.{Reads};
 ghost use Rattle.d_urdb.specs.Shown.{row_of};
-ghost use Rattle.d_urdb.specs.Tiers.{Row, IsLeastHole, has_tier};
+ghost use Rattle.d_columns.specs.Tiers.{Row, IsLeastHole, has_tier};
 ghost use Rattle.d_urdb.specs.Periods as spec;
 ghost use Rattle.d_urdb.specs.Values.{HasRisingEnds, HasPrices};
 
-use crate::checks::{PRICE_LIMIT, TIERS};
-use crate::names::{Part, Structure};
+use crate::checks::PRICE_LIMIT;
 use crate::number::{read_end, read_number};
 use crate::row::Record;
+use d_columns::{PERIODS, Part, Structure, TIERS};
 use d_num::{NoMemory, Rate};
 use d_tariff::{Period, Periods};
 use d_tier::Tiers;
 use std::alloc::Global;
-
-const PERIODS: u8 = 36;
 
 impl<'a> Record<'a> {
     /// The price in a part of a tier; 0 where none can be read.
     pub(crate) fn price_in(&self, structure: Structure, period: u8, tier: u8, part: Part) -> Rate
         requires period { period ≤ 35 }
         requires tier { tier ≤ 15 }
-        ensures value { (readings : Readings) → AreReadings readings → result ≡ spec.part_price readings (row_of self.now) structure period tier part }
+        ensures value { Reads (λ reader. spec.part_price reader (row_of self.now) structure period tier part) result }
         ensures range { IsWithin (10 ^ 21) result }
     {
-        match read_number(self.part_cell(structure, period, tier, part), PRICE_LIMIT) {
+        match read_number(
+            self.cells.part_cell(structure, period, tier, part),
+            PRICE_LIMIT,
+        ) {
             Ok(price) => rate_of(price),
             Err(_) => rate_of(0),
         }
@@ -40,7 +41,7 @@ impl<'a> Record<'a> {
     pub(crate) fn price_of(&self, structure: Structure, period: u8, tier: u8) -> Rate
         requires period { period ≤ 35 }
         requires tier { tier ≤ 15 }
-        ensures value { (readings : Readings) → AreReadings readings → result ≡ spec.price_of readings (row_of self.now) structure period tier }
+        ensures value { Reads (λ reader. spec.price_of reader (row_of self.now) structure period tier) result }
         ensures range { IsWithin (2 * 10 ^ 21) result }
     {
         let rate = self.price_in(structure, period, tier, Part::Rate);
@@ -52,10 +53,10 @@ impl<'a> Record<'a> {
     pub(crate) fn end_of(&self, structure: Structure, period: u8, tier: u8) -> Option<i64>
         requires period { period ≤ 35 }
         requires tier { tier ≤ 15 }
-        ensures value { (readings : Readings) → AreReadings readings → result ≡ spec.end_of readings (row_of self.now) structure period tier }
+        ensures value { Reads (λ reader. spec.end_of reader (row_of self.now) structure period tier) result }
         ensures range { IfSome result (IsWithin (10 ^ 13)) }
     {
-        match read_end(self.part_cell(structure, period, tier, Part::Max)) {
+        match read_end(self.cells.part_cell(structure, period, tier, Part::Max)) {
             Ok(end) => end,
             Err(_) => None,
         }
@@ -65,7 +66,7 @@ impl<'a> Record<'a> {
     pub(crate) fn begin_of(&self, structure: Structure, period: u8, tier: u8) -> Option<i64>
         requires period { period ≤ 35 }
         requires tier { tier ≤ 15 }
-        ensures { (readings : Readings) → AreReadings readings → result ≡ spec.begin_of readings (row_of self.now) structure period tier }
+        ensures { Reads (λ reader. spec.begin_of reader (row_of self.now) structure period tier) result }
     {
         if tier == 0 {
             Some(0)
@@ -77,7 +78,7 @@ impl<'a> Record<'a> {
     /// What a period pays for energy sent out.
     pub(crate) fn sell_of(&self, structure: Structure, period: u8) -> Rate
         requires { period ≤ 35 }
-        ensures value { (readings : Readings) → AreReadings readings → result ≡ spec.sell_of readings (row_of self.now) structure period }
+        ensures value { Reads (λ reader. spec.sell_of reader (row_of self.now) structure period) result }
         ensures range { IsWithin (10 ^ 21) result }
     {
         match self.first_sell(structure, period) {
@@ -93,7 +94,7 @@ impl<'a> Record<'a> {
         ensures range { IfSome result (λ tier. tier ≤ 15) }
     {
         for tier in 0..TIERS {
-            if self.is_filled(structure, period, tier, Part::Sell) {
+            if self.cells.is_filled(structure, period, tier, Part::Sell) {
                 return Some(tier);
             }
         }
@@ -104,7 +105,7 @@ impl<'a> Record<'a> {
     pub(crate) fn tiers(&self, structure: Structure, period: u8) -> Tiers
         requires period { period ≤ 35 }
         requires rising { HasRisingEnds (row_of self.now) structure period }
-        ensures value { (readings : Readings) → AreReadings readings → result ≡ spec.tiers_to readings (row_of self.now) structure period 15 }
+        ensures value { Reads (λ reader. spec.tiers_to reader (row_of self.now) structure period 15) result }
         ensures prices { HasPrices result }
     {
         let mut tiers = Tiers::one(self.price_of(structure, period, 0));
@@ -119,12 +120,12 @@ impl<'a> Record<'a> {
         requires period { period ≤ 35 }
         requires tier { (1 ≤ tier) × (tier ≤ 15) }
         requires rising { HasRisingEnds (row_of self.now) structure period }
-        requires before { (readings : Readings) → AreReadings readings → tiers.old ≡ spec.tiers_to readings (row_of self.now) structure period (tier - 1) }
+        requires before { Reads (λ reader. spec.tiers_to reader (row_of self.now) structure period (tier - 1)) tiers.old }
         requires prices { HasPrices tiers.old }
-        ensures value { (readings : Readings) → AreReadings readings → tiers.new ≡ spec.tiers_to readings (row_of self.now) structure period tier }
+        ensures value { Reads (λ reader. spec.tiers_to reader (row_of self.now) structure period tier) tiers.new }
         ensures prices { HasPrices tiers.new }
     {
-        if !self.has_tier(structure, period, tier) {
+        if !self.cells.has_tier(structure, period, tier) {
             return;
         }
         if let Some(end) = self.end_of(structure, period, tier - 1) {
@@ -136,10 +137,10 @@ impl<'a> Record<'a> {
     fn energy_period(&self, period: u8) -> Option<Period>
         requires period { period ≤ 35 }
         requires rising { HasRisingEnds (row_of self.now) Structure.Energy period }
-        ensures value { (readings : Readings) → AreReadings readings → result ≡ spec.energy_period readings (row_of self.now) period }
+        ensures value { Reads (λ reader. spec.energy_period reader (row_of self.now) period) result }
         ensures prices { IfSome result HasEnergyPrices }
     {
-        if !self.has_tier(Structure::Energy, period, 0) {
+        if !self.cells.has_tier(Structure::Energy, period, 0) {
             return None;
         }
         let tiers = self.tiers(Structure::Energy, period);
@@ -150,7 +151,7 @@ impl<'a> Record<'a> {
     /// All energy periods by their numbers.
     pub(crate) fn energy_periods(&self, alloc: Global) -> Result<Periods, NoMemory>
         requires { (period : ℕ) → period ≤ 35 → HasRisingEnds (row_of self.now) Structure.Energy period }
-        ensures value { IfOk result (λ periods. (readings : Readings) → AreReadings readings → periods ≡ spec.energy_periods readings (row_of self.now)) }
+        ensures value { IfOk result (Reads (λ reader. spec.energy_periods reader (row_of self.now))) }
         ensures prices { IfOk result (λ periods. All (λ period. ForSome period HasEnergyPrices) periods) }
     {
         let mut periods = Periods::new(alloc);

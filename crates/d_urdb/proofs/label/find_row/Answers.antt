@@ -4,10 +4,10 @@ use Rattle.d_urdb.proofs.label.find_row.Goals as goal
 use Rattle.d_urdb.proofs.label.find_row.Goals.{then-eq+else-is_some, else-eq}
 
 pub returns-then-is_some-clause-refused : goal.returns-then-is_some-clause-refused
-returns-then-is_some-clause-refused c = λ readings rule.
+returns-then-is_some-clause-refused c = λ reader rule.
     let within = c.rows-row-end.ensures.there c.loop-row.row c.loop-row-test.true in
     let here = label_test c.args.table.now c.args.label.now c.cell.result.now c.in-Some.column c.loop-row.row c.eq.result true c.cell.ensures c.eq.ensures c.if-eq.true in
-    second_refused c.args.table.now c.args.label.now c.in-Some.column c.loop-row.row c.loop-row.found readings rule
+    second_refused c.args.table.now c.args.label.now c.in-Some.column c.loop-row.row c.loop-row.found reader rule
     (sym c.is_some.ensures ∙ c.if-is_some.true) within here c.loop-row.invariant (sym c.in-Some.ensures.value)
     ∙ ap Err (sym c.refusal-then-is_some.ensures)
 

@@ -1,5 +1,13 @@
-use Rattle.d_urdb.proofs.ReadingFound.{one_reading}
+use Rattle.d_urdb.proofs.OneReader.{one_reader}
+use Rattle.d_urdb.proofs.OutcomeFacts.{one_outcome}
+use Rattle.d_urdb.proofs.PeriodLaw.{as_in_grids}
 use Rattle.d_urdb.proofs.law.reads_once.Goals as goal
 
-pub returns : goal.returns
-returns c = one_reading
+pub returns-clause-cells : goal.returns-clause-cells
+returns-clause-cells c = one_reader
+
+pub returns-clause-outcome : goal.returns-clause-outcome
+returns-clause-outcome c = one_outcome
+
+pub returns-clause-periods : goal.returns-clause-periods
+returns-clause-periods c = as_in_grids

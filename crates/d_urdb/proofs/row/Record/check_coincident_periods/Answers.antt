@@ -23,4 +23,4 @@ loop-period-preserved c =
 pub returns : goal.returns
 returns c =
     let all : c.loop-period.period ≡ 36 = omega arith in
-    subst (λ n. Passes (λ readings. each n (by_period c.args.rule (row_of c.args.self.now) readings))) all c.loop-period.invariant
+    subst (λ n. Passes (λ reader. each n (by_period c.args.rule (row_of c.args.self.now) reader))) all c.loop-period.invariant

@@ -1,5 +1,5 @@
 use Rattle.std.proofs.lemmas.Result.{err_from_is_err_and}
-use Rattle.d_urdb.specs.declared.names.Part.TheVariants.{Rate, Adj}
+use Rattle.d_columns.specs.declared.names.Part.TheVariants.{Rate, Adj}
 use Rattle.d_urdb.specs.Shown.{row_of}
 use Rattle.d_urdb.proofs.CoincidentFacts.{by_price}
 use Rattle.d_urdb.proofs.RefusalOrder.{first_refuses, then_checks}

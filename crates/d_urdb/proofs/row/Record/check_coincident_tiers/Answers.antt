@@ -23,4 +23,4 @@ loop-tier-preserved c =
 pub returns : goal.returns
 returns c =
     let all : c.loop-tier.tier ≡ 16 = omega arith in
-    subst (λ n. Passes (λ readings. each n (by_tier c.args.rule (row_of c.args.self.now) c.args.period readings))) all c.loop-tier.invariant
+    subst (λ n. Passes (λ reader. each n (by_tier c.args.rule (row_of c.args.self.now) c.args.period reader))) all c.loop-tier.invariant

@@ -5,4 +5,4 @@ use Rattle.d_urdb.proofs.CoincidentFacts.{by_tier}
 use Rattle.d_urdb.proofs.row.Record.check_coincident_tiers.Given as goal
 
 abbrev pub invariant-loop-tier : goal.invariant-loop-tier
-invariant-loop-tier l = Passes (λ readings. each l.tier (by_tier l.fn.rule (row_of l.fn.self) l.fn.period readings))
+invariant-loop-tier l = Passes (λ reader. each l.tier (by_tier l.fn.rule (row_of l.fn.self) l.fn.period reader))

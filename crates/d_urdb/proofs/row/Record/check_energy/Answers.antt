@@ -2,7 +2,7 @@ use Rattle.std.proofs.Common.{◌∙◌}
 use Rattle.std.proofs.lemmas.Result.{err_from_is_err_and}
 use Rattle.std.specs.Bool.{⊤}
 use Rattle.d_cal.specs.declared.schedule.Schedule.{Schedule}
-use Rattle.d_urdb.specs.declared.names.Structure.TheVariants.{Energy}
+use Rattle.d_columns.specs.declared.names.Structure.TheVariants.{Energy}
 use Rattle.d_urdb.specs.Periods.{period_refusals}
 use Rattle.d_urdb.specs.Record.{energy_section}
 use Rattle.d_urdb.specs.Refusals.{each}
@@ -14,18 +14,18 @@ use Rattle.d_urdb.proofs.row.Record.check_energy.Goals as goal
 pub returns-in_err-check_rule-clause-refusals : goal.returns-in_err-check_rule-clause-refusals
 returns-in_err-check_rule-clause-refusals c =
     let p = err_from_is_err_and c.from_residual.result c.from_residual.ensures.1 in
-    rw (p.1, p.2) (λ readings are. some_before _ _ _ (c.in_err-check_rule.ensures readings are))
+    rw (p.1, p.2) (λ reader are. some_before _ _ _ (c.in_err-check_rule.ensures reader are))
 
 pub returns-in_err-check_periods-clause-refusals : goal.returns-in_err-check_periods-clause-refusals
 returns-in_err-check_periods-clause-refusals c =
     let p = err_from_is_err_and c.from_residual-in_err-check_periods.result c.from_residual-in_err-check_periods.ensures.1 in
-    rw (p.1, p.2) (fault_moves ⊤ Schedule (λ readings. each 36 (period_refusals readings (row_of c.args.self.now) Energy)) (λ readings. energy_section readings (row_of c.args.self.now) c.args.rule) c.in_err-check_periods.field-0.0
-    (λ readings are refused here. none_before _ _ (c.in_ok-check_rule.ensures readings are) ∙ (some_before _ _ _ (here))) c.in_err-check_periods.ensures.refusals)
+    rw (p.1, p.2) (fault_moves ⊤ Schedule (λ reader. each 36 (period_refusals reader (row_of c.args.self.now) Energy)) (λ reader. energy_section reader (row_of c.args.self.now) c.args.rule) c.in_err-check_periods.field-0.0
+    (λ reader are refused here. none_before _ _ (c.in_ok-check_rule.ensures reader are) ∙ (some_before _ _ _ (here))) c.in_err-check_periods.ensures.refusals)
 
 pub returns-in_err-hours-clause-refusals : goal.returns-in_err-hours-clause-refusals
 returns-in_err-hours-clause-refusals c =
     let p = err_from_is_err_and c.from_residual-in_err-hours.result c.from_residual-in_err-hours.ensures.1 in
-    rw (p.1, p.2) (λ readings are. none_before _ _ (c.in_ok-check_rule.ensures readings are) ∙ (none_before _ _ (c.in_ok-check_periods.ensures.refusals readings are) ∙ (c.in_err-hours.ensures.refusals readings are)))
+    rw (p.1, p.2) (λ reader are. none_before _ _ (c.in_ok-check_rule.ensures reader are) ∙ (none_before _ _ (c.in_ok-check_periods.ensures.refusals reader are) ∙ (c.in_err-hours.ensures.refusals reader are)))
 
 pub returns-clause-refusals : goal.returns-clause-refusals
-returns-clause-refusals c = λ readings are. none_before _ _ (c.in_ok-check_rule.ensures readings are) ∙ (none_before _ _ (c.in_ok-check_periods.ensures.refusals readings are) ∙ (c.in_ok-hours.ensures.refusals readings are))
+returns-clause-refusals c = λ reader are. none_before _ _ (c.in_ok-check_rule.ensures reader are) ∙ (none_before _ _ (c.in_ok-check_periods.ensures.refusals reader are) ∙ (c.in_ok-hours.ensures.refusals reader are))

@@ -1,7 +1,7 @@
 use Rattle.std.proofs.Common.{◌∙◌, ℕ, List}
 use Rattle.std.proofs.lemmas.Result.{err_from_is_err_and}
 use Rattle.std.specs.Bool.{⊤}
-use Rattle.d_urdb.specs.declared.names.Structure.TheVariants.{FlatDemand}
+use Rattle.d_columns.specs.declared.names.Structure.TheVariants.{FlatDemand}
 use Rattle.d_urdb.specs.Periods.{period_refusals}
 use Rattle.d_urdb.specs.Record.{flat_section}
 use Rattle.d_urdb.specs.Refusals.{each}
@@ -13,18 +13,18 @@ use Rattle.d_urdb.proofs.row.Record.check_flat_demand.Goals as goal
 pub returns-in_err-check_periods-clause-refusals : goal.returns-in_err-check_periods-clause-refusals
 returns-in_err-check_periods-clause-refusals c =
     let p = err_from_is_err_and c.from_residual.result c.from_residual.ensures.1 in
-    rw (p.1, p.2) (fault_moves ⊤ (List ℕ) (λ readings. each 36 (period_refusals readings (row_of c.args.self.now) FlatDemand)) (λ readings. flat_section readings (row_of c.args.self.now)) c.in_err-check_periods.field-0.0
-    (λ readings are refused here. some_before _ _ _ (here)) c.in_err-check_periods.ensures.refusals)
+    rw (p.1, p.2) (fault_moves ⊤ (List ℕ) (λ reader. each 36 (period_refusals reader (row_of c.args.self.now) FlatDemand)) (λ reader. flat_section reader (row_of c.args.self.now)) c.in_err-check_periods.field-0.0
+    (λ reader are refused here. some_before _ _ _ (here)) c.in_err-check_periods.ensures.refusals)
 
 pub returns-in_err-check_demand_unit-clause-refusals : goal.returns-in_err-check_demand_unit-clause-refusals
 returns-in_err-check_demand_unit-clause-refusals c =
     let p = err_from_is_err_and c.from_residual-in_err-check_demand_unit.result c.from_residual-in_err-check_demand_unit.ensures.1 in
-    rw (p.1, p.2) (λ readings are. none_before _ _ (c.in_ok-check_periods.ensures.refusals readings are) ∙ (some_before _ _ _ (c.in_err-check_demand_unit.ensures readings are)))
+    rw (p.1, p.2) (λ reader are. none_before _ _ (c.in_ok-check_periods.ensures.refusals reader are) ∙ (some_before _ _ _ (c.in_err-check_demand_unit.ensures reader are)))
 
 pub returns-in_err-months-clause-refusals : goal.returns-in_err-months-clause-refusals
 returns-in_err-months-clause-refusals c =
     let p = err_from_is_err_and c.from_residual-in_err-months.result c.from_residual-in_err-months.ensures.1 in
-    rw (p.1, p.2) (λ readings are. none_before _ _ (c.in_ok-check_periods.ensures.refusals readings are) ∙ (none_before _ _ (c.in_ok-check_demand_unit.ensures readings are) ∙ (c.in_err-months.ensures.refusals readings are)))
+    rw (p.1, p.2) (λ reader are. none_before _ _ (c.in_ok-check_periods.ensures.refusals reader are) ∙ (none_before _ _ (c.in_ok-check_demand_unit.ensures reader are) ∙ (c.in_err-months.ensures.refusals reader are)))
 
 pub returns-clause-refusals : goal.returns-clause-refusals
-returns-clause-refusals c = λ readings are. none_before _ _ (c.in_ok-check_periods.ensures.refusals readings are) ∙ (none_before _ _ (c.in_ok-check_demand_unit.ensures readings are) ∙ (c.in_ok-months.ensures.refusals readings are))
+returns-clause-refusals c = λ reader are. none_before _ _ (c.in_ok-check_periods.ensures.refusals reader are) ∙ (none_before _ _ (c.in_ok-check_demand_unit.ensures reader are) ∙ (c.in_ok-months.ensures.refusals reader are))

@@ -2,7 +2,7 @@ use Rattle.std.proofs.Common.{◌≡◌, ℕ, ◌<◌, ◌*◌, ◌^◌, pos, in
 use Rattle.d_urdb.specs.declared.fault.Refused.{Refused}
 use Rattle.d_urdb.specs.Checks.{Passes}
 use Rattle.d_urdb.specs.Months.{item_column}
-use Rattle.d_urdb.specs.Numbers.{Readings}
+use Rattle.d_urdb.specs.Numbers.{CellReader}
 use Rattle.d_urdb.specs.Ratchets.{fraction_refusal}
 use Rattle.d_urdb.specs.Refusals.{each}
 use Rattle.d_urdb.specs.Shown.{row_of}
@@ -11,37 +11,38 @@ use Rattle.d_urdb.proofs.KeptNumbers.{kept_test}
 use Rattle.d_urdb.proofs.RatchetFacts.{fraction_passes, fraction_refuses}
 use Rattle.d_urdb.proofs.RefusalOrder.{none_yet, one_more, refused_here}
 use Rattle.d_urdb.proofs.row.Record.check_fractions.Goals as goal
+use Rattle.d_urdb.specs.declared.cause.Cause.TheVariants as cause
 
 pub loop-month-init : goal.loop-month-init
-loop-month-init c = none_yet (λ readings month. fraction_refusal readings (row_of c.args.self.now) month ∷ [])
+loop-month-init c = none_yet (λ reader month. fraction_refusal reader (row_of c.args.self.now) month ∷ [])
 
 pub returns-then-numbers-from-lt0 : goal.returns-then-numbers-from-lt0
 returns-then-numbers-from-lt0 c =
     let row = row_of c.args.self.now in
     let month = c.loop-month.month in
-    let list : Readings → ℕ → List (Option Refused) = λ readings month. fraction_refusal readings row month ∷ [] in
+    let list : CellReader → ℕ → List (Option Refused) = λ reader month. fraction_refusal reader row month ∷ [] in
     let within : month < length c.args.numbers.now = omega (arith, c.told-numbers, c.loop-month-test.true) in
     let test = kept_test (λ n. int_lt n (pos 0)) true (100 * 10 ^ 18) c.args.numbers.now month c.from.result (omega arith) c.requires.small within
     c.from.ensures c.if-numbers-from-lt0.true in
     let column = c.item_column-column.ensures.value ∙ ap (λ list. item_column row list month) c.requires.items.list_is in
     refused_here 12 month list c.refusal.result c.loop-month-test.true c.loop-month.invariant
-    (λ readings are.
-    fraction_refuses readings row month _ c.refusal.result (c.requires.numbers readings are month c.loop-month-test.true) test
-    (refusal_same _ 22 _ _ 0 0 c.refusal.result c.refusal.ensures column refl))
+    (λ reader are.
+    fraction_refuses reader row month _ c.refusal.result (c.requires.numbers reader are month c.loop-month-test.true) test
+    (refusal_same _ cause.Fraction _ _ 0 0 c.refusal.result c.refusal.ensures column refl))
 
 pub loop-month-preserved : goal.loop-month-preserved
 loop-month-preserved c =
     let row = row_of c.args.self.now in
     let month = c.loop-month.month in
-    let list : Readings → ℕ → List (Option Refused) = λ readings month. fraction_refusal readings row month ∷ [] in
+    let list : CellReader → ℕ → List (Option Refused) = λ reader month. fraction_refusal reader row month ∷ [] in
     let within : month < length c.args.numbers.now = omega (arith, c.told-numbers, c.loop-month-test.true) in
     let test = kept_test (λ n. int_lt n (pos 0)) false (100 * 10 ^ 18) c.args.numbers.now month c.from.result (omega arith) c.requires.small within
     c.from.ensures c.if-numbers-from-lt0.false in
     one_more month list c.loop-month.invariant
-    (λ readings are. fraction_passes readings row month _ (c.requires.numbers readings are month c.loop-month-test.true) test)
+    (λ reader are. fraction_passes reader row month _ (c.requires.numbers reader are month c.loop-month-test.true) test)
 
 pub returns : goal.returns
 returns c =
-    let list : Readings → ℕ → List (Option Refused) = λ readings month. fraction_refusal readings (row_of c.args.self.now) month ∷ [] in
+    let list : CellReader → ℕ → List (Option Refused) = λ reader month. fraction_refusal reader (row_of c.args.self.now) month ∷ [] in
     let all : c.loop-month.month ≡ 12 = omega arith in
-    subst (λ n. Passes (λ readings. each n (list readings))) all c.loop-month.invariant
+    subst (λ n. Passes (λ reader. each n (list reader))) all c.loop-month.invariant

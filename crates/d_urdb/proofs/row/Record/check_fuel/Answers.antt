@@ -15,9 +15,9 @@ returns-in_err-numbers c =
     c.in_ok-items.ensures.refusals c.in_err-numbers.ensures.refusals)
 
 pub check_no_fuel-requires-clause-numbers : goal.check_no_fuel-requires-clause-numbers
-check_no_fuel-requires-clause-numbers c readings are =
-    fuel_numbers readings (row_of c.args.self.now) c.in_ok-items.items.list c.in_ok-numbers.numbers c.in_ok-items.ensures.items.list_is
-    (c.in_ok-numbers.ensures.value readings are)
+check_no_fuel-requires-clause-numbers c reader are =
+    fuel_numbers reader (row_of c.args.self.now) c.in_ok-items.items.list c.in_ok-numbers.numbers c.in_ok-items.ensures.items.list_is
+    (c.in_ok-numbers.ensures.value reader are)
 
 pub returns : goal.returns
 returns c =

@@ -6,4 +6,4 @@ use Rattle.d_urdb.specs.Shown.{row_of}
 use Rattle.d_urdb.proofs.row.Record.check_no_fuel.Given as goal
 
 abbrev pub invariant-loop-month : goal.invariant-loop-month
-invariant-loop-month l = Passes (λ readings. each l.month (λ month. fuel_refusal readings (row_of l.fn.self) month ∷ []))
+invariant-loop-month l = Passes (λ reader. each l.month (λ month. fuel_refusal reader (row_of l.fn.self) month ∷ []))

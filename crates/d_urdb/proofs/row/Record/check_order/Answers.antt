@@ -1,11 +1,12 @@
 use Rattle.std.proofs.Common.{refl, sym}
 use Rattle.d_urdb.proofs.CheckFacts.{refusal_same, when_passes, when_refuses}
 use Rattle.d_urdb.proofs.row.Record.check_order.Goals as goal
+use Rattle.d_urdb.specs.declared.cause.Cause.TheVariants as cause
 
 pub returns-then-breaks_order : goal.returns-then-breaks_order
-returns-then-breaks_order c = λ readings are.
-    when_refuses _ _ c.refusal.result (sym (c.if-breaks_order.ensures readings are))
-    (refusal_same _ 8 _ _ 0 0 c.refusal.result c.refusal.ensures c.part_column-column.ensures.value refl)
+returns-then-breaks_order c = λ reader are.
+    when_refuses _ _ c.refusal.result (sym (c.if-breaks_order.ensures reader are))
+    (refusal_same _ cause.TierOrder _ _ 0 0 c.refusal.result c.refusal.ensures c.part_column-column.ensures.value refl)
 
 pub returns : goal.returns
-returns c = λ readings are. when_passes _ _ (sym (c.if-breaks_order.ensures readings are))
+returns c = λ reader are. when_passes _ _ (sym (c.if-breaks_order.ensures reader are))

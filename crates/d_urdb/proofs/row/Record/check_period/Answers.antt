@@ -1,7 +1,7 @@
 use Rattle.std.proofs.Common.{arith, sym}
 use Rattle.std.proofs.lemmas.Result.{err_from_is_err_and}
 use Rattle.d_urdb.specs.Shown.{row_of}
-use Rattle.d_urdb.proofs.HoleFacts.{no_16}
+use Rattle.d_columns.proofs.HoleLaws.{no_16}
 use Rattle.d_urdb.proofs.PeriodChecks.{period_holes, period_numbers, period_units, period_order, period_sells, period_falls, period_passes, period_rises, period_not_falling}
 use Rattle.d_urdb.proofs.EmptyPeriod.{empty_passes}
 use Rattle.d_urdb.proofs.row.Record.check_period.Goals as goal
@@ -19,8 +19,8 @@ pub returns-then-not-has_tier-clause-rising : goal.returns-then-not-has_tier-cla
 returns-then-not-has_tier-clause-rising c = period_rises (row_of c.args.self.now) c.args.structure c.args.period (returns-then-not-has_tier-clause-refusals c)
 
 pub returns-then-not-has_tier-clause-prices : goal.returns-then-not-has_tier-clause-prices
-returns-then-not-has_tier-clause-prices c readings are tier within =
-    period_not_falling (row_of c.args.self.now) c.args.structure c.args.period (returns-then-not-has_tier-clause-refusals c) readings are tier (omega (arith, within))
+returns-then-not-has_tier-clause-prices c reader are tier within =
+    period_not_falling (row_of c.args.self.now) c.args.structure c.args.period (returns-then-not-has_tier-clause-refusals c) reader are tier (omega (arith, within))
 
 pub check_tiers-requires-clause-few : goal.check_tiers-requires-clause-few
 check_tiers-requires-clause-few c = no_16 (row_of c.args.self.now) c.args.structure c.args.period c.in_ok-check_holes.ensures
@@ -69,5 +69,5 @@ pub returns-clause-rising : goal.returns-clause-rising
 returns-clause-rising c = period_rises (row_of c.args.self.now) c.args.structure c.args.period (returns-clause-refusals c)
 
 pub returns-clause-prices : goal.returns-clause-prices
-returns-clause-prices c readings are tier within =
-    period_not_falling (row_of c.args.self.now) c.args.structure c.args.period (returns-clause-refusals c) readings are tier (omega (arith, within))
+returns-clause-prices c reader are tier within =
+    period_not_falling (row_of c.args.self.now) c.args.structure c.args.period (returns-clause-refusals c) reader are tier (omega (arith, within))

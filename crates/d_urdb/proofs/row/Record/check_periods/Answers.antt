@@ -29,7 +29,7 @@ loop-period-preserved c = record {
 pub returns-clause-refusals : goal.returns-clause-refusals
 returns-clause-refusals c =
     let all : c.loop-period.period ≡ 36 = omega arith in
-    subst (λ (n : ℕ). Passes (λ readings. each n (period_refusals readings (row_of c.args.self.now) c.args.structure))) all c.loop-period.invariant.passes
+    subst (λ (n : ℕ). Passes (λ reader. each n (period_refusals reader (row_of c.args.self.now) c.args.structure))) all c.loop-period.invariant.passes
 
 pub returns-clause-rising : goal.returns-clause-rising
 returns-clause-rising c period within = c.loop-period.invariant.rising period (omega (arith, within))

@@ -8,7 +8,7 @@ use Rattle.d_urdb.proofs.row.Record.check_periods.Given as goal
 
 abbrev pub invariant-loop-period : goal.invariant-loop-period
 invariant-loop-period l = record {
-  passes : Passes (λ readings. each l.period (period_refusals readings (row_of l.fn.self) l.fn.structure));
+  passes : Passes (λ reader. each l.period (period_refusals reader (row_of l.fn.self) l.fn.structure));
   rising : (period : ℕ) → period < l.period → HasRisingEnds (row_of l.fn.self) l.fn.structure period;
   prices : (period : ℕ) → period < l.period → HasSoundTiers (row_of l.fn.self) l.fn.structure period;
 }

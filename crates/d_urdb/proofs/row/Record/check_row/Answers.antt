@@ -12,56 +12,56 @@ pub returns-in_err-energy_hours-clause-refusals : goal.returns-in_err-energy_hou
 unfolding row_refusals
 returns-in_err-energy_hours-clause-refusals c =
     let p = err_from_is_err_and c.from_residual.result c.from_residual.ensures.1 in
-    rw (p.1, p.2) (fault_moves Schedule Accepted (λ readings. energy_section readings (row_of c.args.self.now) c.args.rule) (λ readings. row_refusals readings (row_of c.args.self.now) c.args.rule) c.in_err-energy_hours.field-0.0
-    (λ readings are refused here. some_before _ _ _ (here)) c.in_err-energy_hours.ensures.refusals)
+    rw (p.1, p.2) (fault_moves Schedule Accepted (λ reader. energy_section reader (row_of c.args.self.now) c.args.rule) (λ reader. row_refusals reader (row_of c.args.self.now) c.args.rule) c.in_err-energy_hours.field-0.0
+    (λ reader are refused here. some_before _ _ _ (here)) c.in_err-energy_hours.ensures.refusals)
 
 pub returns-in_err-demand_hours-clause-refusals : goal.returns-in_err-demand_hours-clause-refusals
 unfolding row_refusals
 returns-in_err-demand_hours-clause-refusals c =
     let p = err_from_is_err_and c.from_residual-in_err-demand_hours.result c.from_residual-in_err-demand_hours.ensures.1 in
-    rw (p.1, p.2) (fault_moves Schedule Accepted (λ readings. demand_section readings (row_of c.args.self.now)) (λ readings. row_refusals readings (row_of c.args.self.now) c.args.rule) c.in_err-demand_hours.field-0.0
-    (λ readings are refused here. none_before _ _ (c.in_ok-energy_hours.ensures.refusals readings are) ∙ (some_before _ _ _ (here))) c.in_err-demand_hours.ensures.refusals)
+    rw (p.1, p.2) (fault_moves Schedule Accepted (λ reader. demand_section reader (row_of c.args.self.now)) (λ reader. row_refusals reader (row_of c.args.self.now) c.args.rule) c.in_err-demand_hours.field-0.0
+    (λ reader are refused here. none_before _ _ (c.in_ok-energy_hours.ensures.refusals reader are) ∙ (some_before _ _ _ (here))) c.in_err-demand_hours.ensures.refusals)
 
 pub returns-in_err-flat_months-clause-refusals : goal.returns-in_err-flat_months-clause-refusals
 unfolding row_refusals
 returns-in_err-flat_months-clause-refusals c =
     let p = err_from_is_err_and c.from_residual-in_err-flat_months.result c.from_residual-in_err-flat_months.ensures.1 in
-    rw (p.1, p.2) (fault_moves (List ℕ) Accepted (λ readings. flat_section readings (row_of c.args.self.now)) (λ readings. row_refusals readings (row_of c.args.self.now) c.args.rule) c.in_err-flat_months.field-0.0
-    (λ readings are refused here. none_before _ _ (c.in_ok-energy_hours.ensures.refusals readings are) ∙ (none_before _ _ (c.in_ok-demand_hours.ensures.refusals readings are) ∙ (some_before _ _ _ (here)))) c.in_err-flat_months.ensures.refusals)
+    rw (p.1, p.2) (fault_moves (List ℕ) Accepted (λ reader. flat_section reader (row_of c.args.self.now)) (λ reader. row_refusals reader (row_of c.args.self.now) c.args.rule) c.in_err-flat_months.field-0.0
+    (λ reader are refused here. none_before _ _ (c.in_ok-energy_hours.ensures.refusals reader are) ∙ (none_before _ _ (c.in_ok-demand_hours.ensures.refusals reader are) ∙ (some_before _ _ _ (here)))) c.in_err-flat_months.ensures.refusals)
 
 pub returns-in_err-ratchet-clause-refusals : goal.returns-in_err-ratchet-clause-refusals
 unfolding row_refusals
 returns-in_err-ratchet-clause-refusals c =
     let p = err_from_is_err_and c.from_residual-in_err-ratchet.result c.from_residual-in_err-ratchet.ensures.1 in
-    rw (p.1, p.2) (λ readings are. none_before _ _ (c.in_ok-energy_hours.ensures.refusals readings are) ∙ (none_before _ _ (c.in_ok-demand_hours.ensures.refusals readings are) ∙ (none_before _ _ (c.in_ok-flat_months.ensures.refusals readings are) ∙ (some_before _ _ _ (c.in_err-ratchet.ensures.refusals readings are)))))
+    rw (p.1, p.2) (λ reader are. none_before _ _ (c.in_ok-energy_hours.ensures.refusals reader are) ∙ (none_before _ _ (c.in_ok-demand_hours.ensures.refusals reader are) ∙ (none_before _ _ (c.in_ok-flat_months.ensures.refusals reader are) ∙ (some_before _ _ _ (c.in_err-ratchet.ensures.refusals reader are)))))
 
 pub returns-in_err-fixed-clause-refusals : goal.returns-in_err-fixed-clause-refusals
 unfolding row_refusals
 returns-in_err-fixed-clause-refusals c =
     let p = err_from_is_err_and c.from_residual-in_err-fixed.result c.from_residual-in_err-fixed.ensures.1 in
-    rw (p.1, p.2) (λ readings are. none_before _ _ (c.in_ok-energy_hours.ensures.refusals readings are) ∙ (none_before _ _ (c.in_ok-demand_hours.ensures.refusals readings are) ∙ (none_before _ _ (c.in_ok-flat_months.ensures.refusals readings are) ∙ (none_before _ _ (c.in_ok-ratchet.ensures.refusals readings are) ∙ (some_before _ _ _ (c.in_err-fixed.ensures.refusals readings are))))))
+    rw (p.1, p.2) (λ reader are. none_before _ _ (c.in_ok-energy_hours.ensures.refusals reader are) ∙ (none_before _ _ (c.in_ok-demand_hours.ensures.refusals reader are) ∙ (none_before _ _ (c.in_ok-flat_months.ensures.refusals reader are) ∙ (none_before _ _ (c.in_ok-ratchet.ensures.refusals reader are) ∙ (some_before _ _ _ (c.in_err-fixed.ensures.refusals reader are))))))
 
 pub returns-in_err-minimum-clause-refusals : goal.returns-in_err-minimum-clause-refusals
 unfolding row_refusals
 returns-in_err-minimum-clause-refusals c =
     let p = err_from_is_err_and c.from_residual-in_err-minimum.result c.from_residual-in_err-minimum.ensures.1 in
-    rw (p.1, p.2) (λ readings are. none_before _ _ (c.in_ok-energy_hours.ensures.refusals readings are) ∙ (none_before _ _ (c.in_ok-demand_hours.ensures.refusals readings are) ∙ (none_before _ _ (c.in_ok-flat_months.ensures.refusals readings are) ∙ (none_before _ _ (c.in_ok-ratchet.ensures.refusals readings are) ∙ (none_before _ _ (c.in_ok-fixed.ensures.refusals readings are) ∙ (some_before _ _ _ (c.in_err-minimum.ensures.refusals readings are)))))))
+    rw (p.1, p.2) (λ reader are. none_before _ _ (c.in_ok-energy_hours.ensures.refusals reader are) ∙ (none_before _ _ (c.in_ok-demand_hours.ensures.refusals reader are) ∙ (none_before _ _ (c.in_ok-flat_months.ensures.refusals reader are) ∙ (none_before _ _ (c.in_ok-ratchet.ensures.refusals reader are) ∙ (none_before _ _ (c.in_ok-fixed.ensures.refusals reader are) ∙ (some_before _ _ _ (c.in_err-minimum.ensures.refusals reader are)))))))
 
-pub returns-in_err-check_annual-clause-refusals : goal.returns-in_err-check_annual-clause-refusals
+pub returns-in_err-check_zero-clause-refusals : goal.returns-in_err-check_zero-clause-refusals
 unfolding row_refusals
-returns-in_err-check_annual-clause-refusals c =
-    let p = err_from_is_err_and c.from_residual-in_err-check_annual.result c.from_residual-in_err-check_annual.ensures.1 in
-    rw (p.1, p.2) (λ readings are. none_before _ _ (c.in_ok-energy_hours.ensures.refusals readings are) ∙ (none_before _ _ (c.in_ok-demand_hours.ensures.refusals readings are) ∙ (none_before _ _ (c.in_ok-flat_months.ensures.refusals readings are) ∙ (none_before _ _ (c.in_ok-ratchet.ensures.refusals readings are) ∙ (none_before _ _ (c.in_ok-fixed.ensures.refusals readings are) ∙ (none_before _ _ (c.in_ok-minimum.ensures.refusals readings are) ∙ (some_before _ _ _ (c.in_err-check_annual.ensures readings are))))))))
+returns-in_err-check_zero-clause-refusals c =
+    let p = err_from_is_err_and c.from_residual-in_err-check_zero.result c.from_residual-in_err-check_zero.ensures.1 in
+    rw (p.1, p.2) (λ reader are. none_before _ _ (c.in_ok-energy_hours.ensures.refusals reader are) ∙ (none_before _ _ (c.in_ok-demand_hours.ensures.refusals reader are) ∙ (none_before _ _ (c.in_ok-flat_months.ensures.refusals reader are) ∙ (none_before _ _ (c.in_ok-ratchet.ensures.refusals reader are) ∙ (none_before _ _ (c.in_ok-fixed.ensures.refusals reader are) ∙ (none_before _ _ (c.in_ok-minimum.ensures.refusals reader are) ∙ (some_before _ _ _ (c.in_err-check_zero.ensures reader are))))))))
 
 pub returns-in_err-check_adjustments-clause-refusals : goal.returns-in_err-check_adjustments-clause-refusals
 unfolding row_refusals
 returns-in_err-check_adjustments-clause-refusals c =
     let p = err_from_is_err_and c.from_residual-in_err-check_adjustments.result c.from_residual-in_err-check_adjustments.ensures.1 in
-    rw (p.1, p.2) (λ readings are. none_before _ _ (c.in_ok-energy_hours.ensures.refusals readings are) ∙ (none_before _ _ (c.in_ok-demand_hours.ensures.refusals readings are) ∙ (none_before _ _ (c.in_ok-flat_months.ensures.refusals readings are) ∙ (none_before _ _ (c.in_ok-ratchet.ensures.refusals readings are) ∙ (none_before _ _ (c.in_ok-fixed.ensures.refusals readings are) ∙ (none_before _ _ (c.in_ok-minimum.ensures.refusals readings are) ∙ (none_before _ _ (c.in_ok-check_annual.ensures readings are) ∙ (c.in_err-check_adjustments.ensures readings are))))))))
+    rw (p.1, p.2) (λ reader are. none_before _ _ (c.in_ok-energy_hours.ensures.refusals reader are) ∙ (none_before _ _ (c.in_ok-demand_hours.ensures.refusals reader are) ∙ (none_before _ _ (c.in_ok-flat_months.ensures.refusals reader are) ∙ (none_before _ _ (c.in_ok-ratchet.ensures.refusals reader are) ∙ (none_before _ _ (c.in_ok-fixed.ensures.refusals reader are) ∙ (none_before _ _ (c.in_ok-minimum.ensures.refusals reader are) ∙ (none_before _ _ (c.in_ok-check_zero.ensures reader are) ∙ (c.in_err-check_adjustments.ensures reader are))))))))
 
 pub returns-clause-refusals : goal.returns-clause-refusals
 unfolding row_refusals
-returns-clause-refusals c = λ readings are. none_before _ _ (c.in_ok-energy_hours.ensures.refusals readings are) ∙ (none_before _ _ (c.in_ok-demand_hours.ensures.refusals readings are) ∙ (none_before _ _ (c.in_ok-flat_months.ensures.refusals readings are) ∙ (none_before _ _ (c.in_ok-ratchet.ensures.refusals readings are) ∙ (none_before _ _ (c.in_ok-fixed.ensures.refusals readings are) ∙ (none_before _ _ (c.in_ok-minimum.ensures.refusals readings are) ∙ (none_before _ _ (c.in_ok-check_annual.ensures readings are) ∙ (c.in_ok-check_adjustments.ensures readings are)))))))
+returns-clause-refusals c = λ reader are. none_before _ _ (c.in_ok-energy_hours.ensures.refusals reader are) ∙ (none_before _ _ (c.in_ok-demand_hours.ensures.refusals reader are) ∙ (none_before _ _ (c.in_ok-flat_months.ensures.refusals reader are) ∙ (none_before _ _ (c.in_ok-ratchet.ensures.refusals reader are) ∙ (none_before _ _ (c.in_ok-fixed.ensures.refusals reader are) ∙ (none_before _ _ (c.in_ok-minimum.ensures.refusals reader are) ∙ (none_before _ _ (c.in_ok-check_zero.ensures reader are) ∙ (c.in_ok-check_adjustments.ensures reader are)))))))
 
 pub returns-clause-accepted : goal.returns-clause-accepted
 returns-clause-accepted c = record {

@@ -1,7 +1,7 @@
 use Rattle.std.proofs.Common.{ℕ, Bool, sym, arith}
-use Rattle.d_urdb.specs.declared.names.Part.TheVariants.{Sell}
+use Rattle.d_columns.specs.declared.names.Part.TheVariants.{Sell}
 use Rattle.d_urdb.specs.Shown.{row_of}
-use Rattle.d_urdb.specs.Tiers.{part_cell, is_filled}
+use Rattle.d_columns.specs.Tiers.{part_cell, is_filled}
 use Rattle.d_urdb.proofs.FirstFound.{first_at, first_nowhere, none_further}
 use Rattle.d_urdb.proofs.row.Record.first_sell.Goals as goal
 

@@ -1,7 +1,7 @@
 use Rattle.std.proofs.Common.{arith, ◌∙◌}
-use Rattle.d_urdb.specs.Ignored.{is_ignored}
+use Rattle.d_columns.specs.Ignored.{is_ignored}
 use Rattle.d_urdb.specs.Shown.{row_of}
-use Rattle.d_urdb.proofs.IgnoredFacts.{kept_here, left_here, all_kept}
+use Rattle.d_urdb.proofs.KeptColumns.{kept_here, left_here, all_kept}
 use Rattle.d_urdb.proofs.row.Record.ignored_columns.Goals.{then-is_ignored+in_ok-add, else-is_ignored}
 use Rattle.d_urdb.proofs.row.Record.ignored_columns.Goals as goal
 

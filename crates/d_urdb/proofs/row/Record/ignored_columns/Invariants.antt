@@ -1,6 +1,6 @@
 use Rattle.std.proofs.Common.{◌≡◌, filter}
 use Rattle.std.specs.List.{range_with_len}
-use Rattle.d_urdb.specs.Ignored.{is_ignored}
+use Rattle.d_columns.specs.Ignored.{is_ignored}
 use Rattle.d_urdb.specs.Shown.{row_of}
 use Rattle.d_urdb.proofs.row.Record.ignored_columns.Given as goal
 

@@ -17,10 +17,10 @@ returns-then-units-eq0-clause-refusals c =
     minimum_none (row_of c.args.self.now) charge c.in_ok-minimum.ensures.refusals c.in_ok-minimum.ensures.value zero
 
 pub returns-then-units-eq0-clause-value : goal.returns-then-units-eq0-clause-value
-returns-then-units-eq0-clause-value c = λ readings are.
+returns-then-units-eq0-clause-value c = λ reader are.
     let charge = c.in_ok-minimum.minimum in
     let zero = zero_money c.units.result charge.amount c.units.ensures.value c.units.ensures.range c.if-units-eq0.true in
-    minimum_nothing readings (row_of c.args.self.now) charge (c.in_ok-minimum.ensures.value readings are) zero
+    minimum_nothing reader (row_of c.args.self.now) charge (c.in_ok-minimum.ensures.value reader are) zero
 
 pub returns-then-is_year-clause-refusals : goal.returns-then-is_year-clause-refusals
 returns-then-is_year-clause-refusals c =
@@ -37,7 +37,7 @@ returns-clause-refusals c =
     minimum_passes (row_of c.args.self.now) charge c.in_ok-minimum.ensures.refusals c.in_ok-minimum.ensures.value other by_month
 
 pub returns-clause-value : goal.returns-clause-value
-returns-clause-value c = λ readings are.
+returns-clause-value c = λ reader are.
     let charge = c.in_ok-minimum.minimum in
     let other = other_money c.units.result charge.amount c.units.ensures.value c.if-units-eq0.false in
-    minimum_value readings (row_of c.args.self.now) charge (c.in_ok-minimum.ensures.value readings are) other
+    minimum_value reader (row_of c.args.self.now) charge (c.in_ok-minimum.ensures.value reader are) other

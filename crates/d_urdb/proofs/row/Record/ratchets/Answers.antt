@@ -21,9 +21,9 @@ returns-in_err-lookback-clause-refusals c =
     c.in_ok-items.ensures.refusals c.in_ok-numbers.ensures.refusals c.in_err-lookback.ensures.refusals)
 
 pub check_fractions-requires-clause-numbers : goal.check_fractions-requires-clause-numbers
-check_fractions-requires-clause-numbers c readings are =
-    ratchet_numbers readings (row_of c.args.self.now) c.in_ok-items.items.list c.in_ok-numbers.numbers c.in_ok-items.ensures.items.list_is
-    (c.in_ok-numbers.ensures.value readings are)
+check_fractions-requires-clause-numbers c reader are =
+    ratchet_numbers reader (row_of c.args.self.now) c.in_ok-items.items.list c.in_ok-numbers.numbers c.in_ok-items.ensures.items.list_is
+    (c.in_ok-numbers.ensures.value reader are)
 
 pub returns-in_err-check_fractions-clause-refusals :
     goal.returns-in_err-check_fractions-clause-refusals
@@ -41,11 +41,17 @@ returns-in_err-check_lookback-clause-refusals c =
     c.in_err-check_lookback.ensures)
 
 pub fractions-requires-clause-numbers : goal.fractions-requires-clause-numbers
-fractions-requires-clause-numbers c readings are =
-    ratchet_numbers readings (row_of c.args.self.now) c.in_ok-items.items.list c.in_ok-numbers.numbers c.in_ok-items.ensures.items.list_is
-    (c.in_ok-numbers.ensures.value readings are)
+fractions-requires-clause-numbers c reader are =
+    ratchet_numbers reader (row_of c.args.self.now) c.in_ok-items.items.list c.in_ok-numbers.numbers c.in_ok-items.ensures.items.list_is
+    (c.in_ok-numbers.ensures.value reader are)
 
 pub returns-clause-refusals : goal.returns-clause-refusals
 returns-clause-refusals c =
     ratchets_pass (row_of c.args.self.now) c.in_ok-items.items.list c.in_ok-items.ensures.items.list_is c.in_ok-items.ensures.refusals
     c.in_ok-numbers.ensures.refusals c.in_ok-lookback.ensures.refusals c.in_ok-check_fractions.ensures c.in_ok-check_lookback.ensures
+
+pub returns-clause-value : goal.returns-clause-value
+returns-clause-value c = c.fractions.ensures.value
+
+pub returns-clause-range : goal.returns-clause-range
+returns-clause-range c = c.fractions.ensures.range

@@ -1,0 +1,9 @@
+pub mod Names
+pub mod Reading
+pub mod Tiers
+pub mod Index
+pub mod Past
+pub mod Holes
+pub mod Shown
+pub mod MonthLists
+pub mod Ignored
