@@ -4,3 +4,4 @@ pub mod CellFacts
 pub mod ReadingFacts
 pub mod RowFacts
 pub mod ColumnFacts
+pub mod BlockFacts

@@ -2,7 +2,7 @@
 
 ghost use Rattle.std.specs.Prelude.{◌≡◌};
 ghost use Rattle.d_table.specs.Cells.{cells_of};
-ghost use Rattle.d_table.specs.Choice.{is_chosen};
+ghost use Rattle.d_table.specs.Choice.{is_kept};
 
 use crate::cell::cell_of;
 use csv::ByteRecord;
@@ -12,20 +12,20 @@ use csv::ByteRecord;
 pub(crate) enum Choice<'a> {
     /// Each of them.
     Every,
-    /// Those whose cell in this column is this value.
+    /// The first two of those whose cell in this column is this value.
     Where { column: usize, value: &'a [u8] },
     /// None of them.
     Nothing,
 }
 
 impl<'a> Choice<'a> {
-    /// Whether this row is kept.
-    pub(crate) fn takes(&self, row: &ByteRecord) -> bool
-        ensures { result ≡ is_chosen self.now (cells_of row.now) }
+    /// Whether this row is kept, behind so many that are.
+    pub(crate) fn takes(&self, kept: usize, row: &ByteRecord) -> bool
+        ensures { result ≡ is_kept self.now kept (cells_of row.now) }
     {
         match *self {
             Choice::Every => true,
-            Choice::Where { column, value } => cell_of(row, column) == value,
+            Choice::Where { column, value } => kept < 2 && cell_of(row, column) == value,
             Choice::Nothing => false,
         }
     }

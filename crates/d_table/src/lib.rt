@@ -4,6 +4,7 @@
 //! and which columns a file has to have is for the callers.
 #![tactic(auto)]
 
+mod block;
 mod cell;
 mod choice;
 mod read;
