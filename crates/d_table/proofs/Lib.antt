@@ -5,3 +5,4 @@ pub mod ReadingFacts
 pub mod RowFacts
 pub mod ColumnFacts
 pub mod BlockFacts
+pub mod KeptFacts

@@ -10,8 +10,6 @@ mod choice;
 mod read;
 mod reading;
 mod table;
-#[cfg(test)]
-mod tests;
 
 pub use read::{read_table, read_where};
 pub use table::{Table, TableFault, is_named};
