@@ -1,7 +1,6 @@
-use Rattle.std.proofs.Common.{◌≡◌, ◌∙◌, ◌++◌, sym, ap}
+use Rattle.std.proofs.Common.{◌≡◌, ◌∙◌, sym}
 use Rattle.std.proofs.lemmas.Result.{IfOk-weaker}
 use Rattle.d_table.specs.Table.{rows_of}
-use Rattle.d_table.specs.Reading.{rows_left}
 use Rattle.d_table.proofs.read.read_table.Goals as goal
 
 pub returns-in-Some-clause-value : goal.returns-in-Some-clause-value

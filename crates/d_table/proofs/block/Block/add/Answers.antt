@@ -1,4 +1,4 @@
-use Rattle.std.proofs.Common.{◌≡◌, ◌+◌, ◌++◌, ◌∷◌, [], length, ◌∙◌, ap, sym, arith, rules}
+use Rattle.std.proofs.Common.{◌≡◌, ◌+◌, length, rules}
 use Rattle.d_table.proofs.BlockFacts.{cut_more, cells_more}
 use Rattle.d_table.proofs.block.Block.add.Goals as goal
 

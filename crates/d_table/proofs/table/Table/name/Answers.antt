@@ -1,4 +1,4 @@
-use Rattle.std.proofs.Common.{◌≡◌, ◌∙◌, ◌<◌, length, ap, sym, arith}
+use Rattle.std.proofs.Common.{◌∙◌, ap, arith}
 use Rattle.d_table.specs.Table.{row_at, cell_in}
 use Rattle.d_table.proofs.BlockFacts.{block_cell, block_place, first_there, first_width}
 use Rattle.d_table.proofs.table.Table.name.Goals as goal

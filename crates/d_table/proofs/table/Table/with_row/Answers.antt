@@ -1,7 +1,7 @@
-use Rattle.std.proofs.Common.{◌≡◌, ◌∙◌, ◌+◌, length, ap, rules}
+use Rattle.std.proofs.Common.{◌≡◌, ◌∙◌, ◌+◌, rules}
 use Rattle.std.proofs.lemmas.List.{length-map}
 use Rattle.csv.specs.Records.{fields_of}
-use Rattle.d_table.specs.Table.{column_of, trimmed}
+use Rattle.d_table.specs.Table.{trimmed}
 use Rattle.d_table.specs.Cells.{cells_of}
 use Rattle.d_table.proofs.BlockFacts.{longer}
 use Rattle.d_table.proofs.table.Table.with_row.Goals as goal
