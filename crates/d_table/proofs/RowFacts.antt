@@ -1,12 +1,13 @@
 -- The rows of a file that were read so far, and those that are still to come.
-use Rattle.std.proofs.Common.{◌≡◌, ◌≢◌, ◌∙◌, ℕ, ◌+◌, ◌-◌, ◌<◌, Bool, true, false, ◌&&◌, cond, nat_lt, List, [], ◌∷◌, ◌++◌, length, take, filter, bytes_eq, get_or, All, arith, refl, sym, ap, add-one, length-append}
+use Rattle.std.proofs.Common.{◌≡◌, ◌≢◌, ◌∙◌, ℕ, ◌+◌, ◌-◌, ◌<◌, Bool, true, false, ◌&&◌, cond, nat_lt, List, [], ◌∷◌, ◌++◌, length, take, filter, bytes_eq, get_or, All, arith, refl, sym, ap, inl, inr, add-one, length-append}
 use Rattle.std.proofs.Math.Seq.{get_or-append_seam}
 use Rattle.std.proofs.lemmas.List.{append-nil, append_assoc, get_or_append_left}
+use Rattle.std.proofs.lemmas.Bool.{cases_Bool}
 use Rattle.std.proofs.lemmas.List.Elements.{All-nil, All-cons, All-push, All-get_or, filter-append}
 use Rattle.d_table.specs.Table.{row_at, cell_in, IsRectangular, IsFirstOdd, kept_rows, has_value, column_of}
 use Rattle.d_table.specs.declared.choice.Choice.{Choice}
 use Rattle.d_table.specs.declared.choice.Choice.TheVariants.{Every, Where, Nothing}
-use Rattle.d_table.specs.Choice.{kept_of, is_kept}
+use Rattle.d_table.specs.Choice.{kept_of, is_kept, with_kept}
 
 -- so many data rows were read, each as long as the header, and the table has the header and the chosen ones of them
 pub record AreRead (header all : List (List (List ℕ))) (choice : Choice) (number : ℕ) (table left : List (List (List ℕ))) : Type 0 where
@@ -57,7 +58,7 @@ kept_count header all choice number table left read one =
     omega (arith, ap length read.kept, length-append header (kept_of choice read.seen))
 
 -- one more, which is kept
-pub kept_read : (header all : List (List (List ℕ))) (choice : Choice) (number : ℕ) (table left : List (List (List ℕ))) (row : List (List ℕ)) (rest : List (List (List ℕ)))
+kept_read : (header all : List (List (List ℕ))) (choice : Choice) (number : ℕ) (table left : List (List (List ℕ))) (row : List (List ℕ)) (rest : List (List (List ℕ)))
     → AreRead header all choice number table left → length header ≡ 1 → left ≡ row ∷ rest → length row ≡ length (row_at header 0) → is_kept choice (length table - 1) row ≡ true
     → AreRead header all choice (number + 1) (table ++ row ∷ []) rest
 kept_read header all choice number table left row rest read one next long chosen = record {
@@ -72,7 +73,7 @@ kept_read header all choice number table left row rest read one next long chosen
 }
 
 -- one more, which is passed over
-pub passed_read : (header all : List (List (List ℕ))) (choice : Choice) (number : ℕ) (table left : List (List (List ℕ))) (row : List (List ℕ)) (rest : List (List (List ℕ)))
+passed_read : (header all : List (List (List ℕ))) (choice : Choice) (number : ℕ) (table left : List (List (List ℕ))) (row : List (List ℕ)) (rest : List (List (List ℕ)))
     → AreRead header all choice number table left → length header ≡ 1 → left ≡ row ∷ rest → length row ≡ length (row_at header 0) → is_kept choice (length table - 1) row ≡ false
     → AreRead header all choice (number + 1) table rest
 passed_read header all choice number table left row rest read one next long other = record {
@@ -85,6 +86,15 @@ passed_read header all choice number table left row rest read one next long othe
       let more = rw now at (kept_of-more choice read.seen row) in
       rw (more, append-nil (kept_of choice read.seen)) read.kept;
 }
+
+-- one more
+pub row_read : (header all : List (List (List ℕ))) (choice : Choice) (number : ℕ) (table left : List (List (List ℕ))) (row : List (List ℕ)) (rest : List (List (List ℕ)))
+    → AreRead header all choice number table left → length header ≡ 1 → left ≡ row ∷ rest → length row ≡ length (row_at header 0)
+    → AreRead header all choice (number + 1) (with_kept choice table row) rest
+row_read header all choice number table left row rest read one next long = elim (cases_Bool (is_kept choice (length table - 1) row)) [
+  | inl chosen ↦ rw chosen (kept_read header all choice number table left row rest read one next long chosen)
+  | inr other ↦ rw other (passed_read header all choice number table left row rest read one next long other)
+]
 
 -- the header stays first
 pub first_row : (header all : List (List (List ℕ))) (choice : Choice) (number : ℕ) (table left : List (List (List ℕ)))

@@ -91,9 +91,7 @@ fn read_rows(
         if row.len() != width {
             return Err(TableFault::Shape(number));
         }
-        if choice.takes(table.rows(), &row) {
-            table = table.with_row(&row)?;
-        }
+        table = choice.keep(table, &row)?;
     }
     // No memory holds a file of so many rows.
     Err(TableFault::Memory)

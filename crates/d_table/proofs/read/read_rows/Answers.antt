@@ -1,13 +1,11 @@
-use Rattle.std.proofs.Common.{◌≡◌, ◌≢◌, ◌∙◌, ◌∷◌, ◌-◌, sym, true, false, rules, length}
+use Rattle.std.proofs.Common.{◌≡◌, ◌≢◌, ◌∙◌, ◌∷◌, sym, rules, length}
 use Rattle.std.proofs.lemmas.List.{length-map}
 use Rattle.csv.specs.Records.{fields_of}
 use Rattle.d_table.specs.Table.{row_at, trimmed}
 use Rattle.d_table.specs.Cells.{cells_of}
-use Rattle.d_table.specs.Choice.{is_kept}
 use Rattle.d_table.specs.Reading.{rows_left}
-use Rattle.d_table.proofs.RowFacts.{all_read, odd_read, kept_read, passed_read}
+use Rattle.d_table.proofs.RowFacts.{all_read, odd_read, row_read}
 use Rattle.d_table.proofs.read.read_rows.Goals as goal
-use Rattle.d_table.proofs.read.read_rows.Goals.{then-takes+in_ok-table, else-takes}
 
 pub returns-then-not-branch-clause-rectangular : goal.returns-then-not-branch-clause-rectangular
 returns-then-not-branch-clause-rectangular c =
@@ -29,14 +27,6 @@ loop-number-preserved c =
     length-map (fields_of c.next_row.new.row) trimmed ∙ sym c.len.ensures ∙ c.if-len-width.false ∙ c.columns-width.ensures.count in
     record {
       reading = search rules;
-      read = elim c.if-takes.branch [
-        | then-takes+in_ok-table w ↦
-            let chosen : is_kept c.args.choice (length c.loop-number.table - 1) (cells_of c.next_row.new.row) ≡ true = search rules in
-            rw (w.table-is, w.in_ok-table.ensures.value) (kept_read c.args.header (rows_left c.args.reader.now) c.args.choice c.loop-number.number c.loop-number.table
-            (rows_left c.loop-number.reader) (cells_of c.next_row.new.row) (rows_left c.next_row.new.reader) c.loop-number.invariant.read c.requires.header next long chosen)
-        | else-takes w ↦
-            let other : is_kept c.args.choice (length c.loop-number.table - 1) (cells_of c.next_row.new.row) ≡ false = search rules in
-            rw w.table-is (passed_read c.args.header (rows_left c.args.reader.now) c.args.choice c.loop-number.number c.loop-number.table
-            (rows_left c.loop-number.reader) (cells_of c.next_row.new.row) (rows_left c.next_row.new.reader) c.loop-number.invariant.read c.requires.header next long other)
-      ];
+      read = rw c.in_ok-table.ensures.value (row_read c.args.header (rows_left c.args.reader.now) c.args.choice c.loop-number.number c.loop-number.table
+          (rows_left c.loop-number.reader) (cells_of c.next_row.new.row) (rows_left c.next_row.new.reader) c.loop-number.invariant.read c.requires.header next long);
     }
