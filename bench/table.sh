@@ -1,5 +1,5 @@
 #!/bin/sh
-# Times three passes over a table of a million rows and about 100 MB, of which one row has the wanted label: csv's own pass, read_table,
+# Times three passes over a table of a million rows and about 100 MB, of which one row has where wanted label: csv's own pass, read_table,
 # and read_where; and read_where again over half the file, which shows how the time grows. It proves and builds a small program of its
 # own in a folder that it removes. It isn't part of the gate.
 top=$(CDPATH='' cd -- "$(dirname -- "$0")/.." && pwd) || exit 1
@@ -44,5 +44,5 @@ PY
 }
 run "csv's own pass" whole
 run "read_table" whole table
-run "read_where" whole the wanted
-run "read_where" half the wanted
+run "read_where" whole where wanted
+run "read_where" half where wanted

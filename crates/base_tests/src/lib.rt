@@ -15,6 +15,8 @@ mod num;
 #[cfg(test)]
 mod path;
 #[cfg(test)]
+mod table;
+#[cfg(test)]
 mod text;
 #[cfg(test)]
 mod tier;

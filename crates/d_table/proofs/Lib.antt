@@ -4,3 +4,5 @@ pub mod CellFacts
 pub mod ReadingFacts
 pub mod RowFacts
 pub mod ColumnFacts
+pub mod BlockFacts
+pub mod KeptFacts

@@ -71,6 +71,12 @@ has_value None value row = false
 has_value (Some column) value row = bytes_eq (cell_in row column) value
 
 -- the header and, in order, the data rows whose cell in the first column of that name is the value
+abbrev pub rows_where : List ℕ → List ℕ → List (List (List ℕ)) → List (List (List ℕ))
+rows_where name value [] = []
+rows_where name value (header ∷ data_rows) = header ∷ filter (has_value (column_of name header) value) data_rows
+
+-- the header and the first two of those rows: who looks for the one row of a value has none, one, or by the second row too many, and a
+-- third says no more
 abbrev pub kept_rows : List ℕ → List ℕ → List (List (List ℕ)) → List (List (List ℕ))
 kept_rows name value [] = []
-kept_rows name value (header ∷ data_rows) = header ∷ filter (has_value (column_of name header) value) data_rows
+kept_rows name value (header ∷ data_rows) = header ∷ take 2 (filter (has_value (column_of name header) value) data_rows)

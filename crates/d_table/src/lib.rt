@@ -4,13 +4,12 @@
 //! and which columns a file has to have is for the callers.
 #![tactic(auto)]
 
+mod block;
 mod cell;
 mod choice;
 mod read;
 mod reading;
 mod table;
-#[cfg(test)]
-mod tests;
 
 pub use read::{read_table, read_where};
 pub use table::{Table, TableFault, is_named};

@@ -1,9 +1,9 @@
 //! Reading a file into a table, as a whole or with the rows that are asked for.
 
-ghost use Rattle.std.specs.Prelude.{◌≡◌, ◌++◌, [], length, filter, OnOk, IfOk, IfErr, IfSome, IfNone};
+ghost use Rattle.std.specs.Prelude.{◌≡◌, ◌++◌, [], length, OnOk, IfOk, IfErr, IfSome, IfNone};
 ghost use Rattle.d_table.specs.Table.{rows_of, kept_rows, IsRectangular};
 ghost use Rattle.d_table.specs.Fault.{IsTableFault};
-ghost use Rattle.d_table.specs.Choice.{is_chosen};
+ghost use Rattle.d_table.specs.Choice.{kept_of};
 ghost use Rattle.d_table.specs.Reading.{IsReading, rows_left};
 
 use crate::choice::Choice;
@@ -26,9 +26,10 @@ pub fn read_table(alloc: Global, bytes: &[u8]) -> Result<Table, TableFault>
     }
 }
 
-/// The table of the header and those data rows alone whose cell in the column of that name is the value; of the header alone where
-/// there is no such column. The column's name is in small letters. It is refused where any data row, also one that isn't kept, has
-/// another number of cells than the header. The bytes are read once, and no row that isn't kept stays in memory.
+/// The table of the header and the first two of the data rows whose cell in the column of that name is the value; of the header alone
+/// where there is no such column. A third such row tells a reader of one row no more than the second, so it isn't kept. The column's name
+/// is in small letters. It is refused where any data row, also one that isn't kept, has another number of cells than the header. The
+/// bytes are read once, and no row that isn't kept stays in memory.
 pub fn read_where(
     alloc: Global,
     bytes: &[u8],
@@ -76,7 +77,7 @@ fn read_rows(
 ) -> Result<Table, TableFault>
     requires reading { IsReading reader.old }
     requires header { length header ≡ 1 }
-    ensures value { IfOk result (λ table. table ≡ header ++ filter (is_chosen choice.entry) (rows_left reader.old)) }
+    ensures value { IfOk result (λ table. table ≡ header ++ kept_of choice.entry (rows_left reader.old)) }
     ensures fault { IfErr result (IsTableFault (header ++ rows_left reader.old)) }
     ensures rectangular { OnOk result (IsRectangular (header ++ rows_left reader.old)) }
 {
@@ -90,9 +91,7 @@ fn read_rows(
         if row.len() != width {
             return Err(TableFault::Shape(number));
         }
-        if choice.takes(&row) {
-            table.add(&row)?;
-        }
+        table = choice.keep(table, &row)?;
     }
     // No memory holds a file of so many rows.
     Err(TableFault::Memory)

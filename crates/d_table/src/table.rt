@@ -7,6 +7,7 @@ ghost use Rattle.indexmap.specs.IndexMap.{get_by};
 ghost use Rattle.d_table.specs.Table.{row_at, cell_in, IsRectangular, IsHeader, column_of};
 ghost use Rattle.d_table.specs.Cells.{cells_of};
 
+use crate::block::Block;
 use crate::cell::cell_of;
 use csv::ByteRecord;
 use indexmap::IndexMap;
@@ -14,7 +15,7 @@ use std::alloc::{AllocError, AllocFailed, Global};
 use std::marker::Model;
 
 /// Why no table was made of a file.
-#[derive(Clone, Copy, Debug, PartialEq, Eq)]
+#[derive(Clone, Copy, Debug)]
 pub enum TableFault {
     /// The first data row, counted from 0, with another number of cells than the header.
     Shape(u64),
@@ -48,23 +49,28 @@ impl<T: Drop> From<AllocFailed<T>> for TableFault {
 /// of cells, and a cell as its bytes without the spaces and tabs at its ends.
 #[derive(Drop)]
 pub struct Table {
-    rows: Vec<ByteRecord>,
+    // How many cells each row has.
+    width: usize,
+    // How many rows there are, the header among them.
+    count: usize,
+    // The cells of the rows, one row after the other.
+    cells: Block,
     // The first column of each name, in small letters.
     columns: IndexMap<Vec<u8>, usize>,
 }
 
 impl Model for Table {
-    ghost use Rattle.std.specs.Prelude.{◌≡◌, List, ℕ, map, bytes_eq};
+    ghost use Rattle.std.specs.Prelude.{◌≡◌, ◌*◌, List, ℕ, length, bytes_eq};
     ghost use Rattle.indexmap.specs.IndexMap.{get_by};
-    ghost use Rattle.d_table.specs.Table.{row_at, column_of, IsRectangular};
-    ghost use Rattle.d_table.specs.Cells.{cells_of};
+    ghost use Rattle.d_table.specs.Table.{row_at, column_of};
+    ghost use Rattle.d_table.specs.Block.{block_rows};
 
     ghost Value = { List (List (List ℕ)) };
 
-    ghost view = { λ t. map cells_of t.rows.items };
+    ghost view = { λ t. block_rows t.width t.count t.cells };
 
-    ghost invariant = { λ t. IsRectangular (map cells_of t.rows.items)
-        × ((name : List ℕ) → get_by (λ k. bytes_eq name k.items) t.columns ≡ column_of name (row_at (map cells_of t.rows.items) 0)) };
+    ghost invariant = { λ t. (length t.cells ≡ t.count * t.width)
+        × ((name : List ℕ) → get_by (λ k. bytes_eq name k.items) t.columns ≡ column_of name (row_at (block_rows t.width t.count t.cells) 0)) };
 }
 
 impl Table {
@@ -73,7 +79,9 @@ impl Table {
         ensures { result ≡ [] }
     {
         Table {
-            rows: Vec::new(alloc),
+            width: 0,
+            count: 0,
+            cells: Block::new(alloc),
             columns: IndexMap::new(alloc),
         }
     }
@@ -84,20 +92,40 @@ impl Table {
         ensures fault { IfErr result (λ fault. fault ≡ TableFault.Memory) }
     {
         let columns = columns_of(alloc, header)?;
-        let mut rows = Vec::new(alloc);
-        rows.push(header.clone()?)?;
-        Ok(Table { rows, columns })
+        let mut cells = Block::new(alloc);
+        cells.add_row(header)?;
+        Ok(Table {
+            width: header.len(),
+            count: 1,
+            cells,
+            columns,
+        })
     }
 
-    /// Puts a row at the end.
-    pub(crate) fn add(&mut self, row: &ByteRecord) -> Result<(), TableFault>
-        requires there { 0 < length self.old }
-        requires width { length (fields_of row.now) ≡ length (row_at self.old 0) }
-        ensures value { OnOk result (self.new ≡ self.old ++ cells_of row.now ∷ []) }
+    /// The table with one more row at its end.
+    pub(crate) fn with_row(self, row: &ByteRecord) -> Result<Table, TableFault>
+        requires there { 0 < length self }
+        requires width { length (fields_of row.now) ≡ length (row_at self 0) }
+        ensures value { IfOk result (λ table. table ≡ self ++ cells_of row.now ∷ []) }
         ensures fault { IfErr result (λ fault. fault ≡ TableFault.Memory) }
     {
-        self.rows.push(row.clone()?)?;
-        Ok(())
+        let Table {
+            width,
+            count,
+            mut cells,
+            columns,
+        } = self;
+        // No memory holds so many rows that they can't be counted.
+        let Some(count) = count.checked_add(1) else {
+            return Err(TableFault::Memory);
+        };
+        cells.add_row(row)?;
+        Ok(Table {
+            width,
+            count,
+            cells,
+            columns,
+        })
     }
 
     /// The number of columns that the header has; none where the file is empty.
@@ -105,11 +133,7 @@ impl Table {
         ensures count { result ≡ length (row_at self.now 0) }
         ensures rectangular { IsRectangular self.now }
     {
-        if self.rows.is_empty() {
-            0
-        } else {
-            self.rows[0].len()
-        }
+        if self.count == 0 { 0 } else { self.width }
     }
 
     /// The number of data rows, the header not among them.
@@ -118,7 +142,7 @@ impl Table {
         ensures there { (row : ℕ) → row < result → row + 1 < length self.now }
         ensures rectangular { IsRectangular self.now }
     {
-        self.rows.len().saturating_sub(1)
+        self.count.saturating_sub(1)
     }
 
     /// The header's cell of a column, as it is written.
@@ -126,7 +150,7 @@ impl Table {
         requires { column < length (row_at self.now 0) }
         ensures { result.now ≡ cell_in (row_at self.now 0) column }
     {
-        cell_of(&self.rows[0], column)
+        self.cells.at(self.width, 0, column)
     }
 
     /// The first column of that name, ASCII case ignored. The name is in small letters. It takes no memory.
@@ -143,7 +167,9 @@ impl Table {
         requires column { column < length (row_at self.now 0) }
         ensures { result.now ≡ cell_in (row_at self.now (row + 1)) column }
     {
-        cell_of(&self.rows[row + 1], column)
+        // shows the range of the count, and so of the row behind this one
+        let _count = self.count;
+        self.cells.at(self.width, row + 1, column)
     }
 
     /// Whether the header is exactly these names, ASCII case ignored. The names are in small letters.

@@ -1,17 +1,15 @@
-use Rattle.std.proofs.Common.{◌≡◌, ◌≢◌, ◌∙◌, ◌∷◌, sym, true, false, rules, length}
+use Rattle.std.proofs.Common.{◌≡◌, ◌≢◌, ◌∙◌, ◌∷◌, sym, rules, length}
 use Rattle.std.proofs.lemmas.List.{length-map}
 use Rattle.csv.specs.Records.{fields_of}
 use Rattle.d_table.specs.Table.{row_at, trimmed}
 use Rattle.d_table.specs.Cells.{cells_of}
-use Rattle.d_table.specs.Choice.{is_chosen}
 use Rattle.d_table.specs.Reading.{rows_left}
-use Rattle.d_table.proofs.RowFacts.{all_read, odd_read, kept_read, passed_read}
+use Rattle.d_table.proofs.RowFacts.{all_read, odd_read, row_read}
 use Rattle.d_table.proofs.read.read_rows.Goals as goal
-use Rattle.d_table.proofs.read.read_rows.Goals.{then-takes+in_ok-add, else-takes}
 
 pub returns-then-not-branch-clause-rectangular : goal.returns-then-not-branch-clause-rectangular
 returns-then-not-branch-clause-rectangular c =
-    (all_read c.args.header (rows_left c.args.reader.now) (is_chosen c.args.choice) c.loop-number.number c.loop-number.table (rows_left c.loop-number.reader)
+    (all_read c.args.header (rows_left c.args.reader.now) c.args.choice c.loop-number.number c.loop-number.table (rows_left c.loop-number.reader)
     c.loop-number.invariant.read c.requires.header (search rules)).1
 
 pub returns-then-len-width-clause-fault : goal.returns-then-len-width-clause-fault
@@ -19,7 +17,7 @@ returns-then-len-width-clause-fault c =
     let next : rows_left c.loop-number.reader ≡ cells_of c.next_row.new.row ∷ rows_left c.next_row.new.reader = search rules in
     let size = c.len.ensures ∙ sym (length-map (fields_of c.next_row.new.row) trimmed) in
     let odd : length (cells_of c.next_row.new.row) ≢ length (row_at c.args.header 0) = λ same. c.if-len-width.true (size ∙ same ∙ sym c.columns-width.ensures.count) in
-    odd_read c.args.header (rows_left c.args.reader.now) (is_chosen c.args.choice) c.loop-number.number c.loop-number.table (rows_left c.loop-number.reader)
+    odd_read c.args.header (rows_left c.args.reader.now) c.args.choice c.loop-number.number c.loop-number.table (rows_left c.loop-number.reader)
     (cells_of c.next_row.new.row) (rows_left c.next_row.new.reader) c.loop-number.invariant.read c.requires.header next odd
 
 pub loop-number-preserved : goal.loop-number-preserved
@@ -29,14 +27,6 @@ loop-number-preserved c =
     length-map (fields_of c.next_row.new.row) trimmed ∙ sym c.len.ensures ∙ c.if-len-width.false ∙ c.columns-width.ensures.count in
     record {
       reading = search rules;
-      read = elim c.if-takes.branch [
-        | then-takes+in_ok-add w ↦
-            let chosen : is_chosen c.args.choice (cells_of c.next_row.new.row) ≡ true = search rules in
-            rw (w.table-is, w.in_ok-add.ensures.value) (kept_read c.args.header (rows_left c.args.reader.now) (is_chosen c.args.choice) c.loop-number.number c.loop-number.table
-            (rows_left c.loop-number.reader) (cells_of c.next_row.new.row) (rows_left c.next_row.new.reader) c.loop-number.invariant.read next long chosen)
-        | else-takes w ↦
-            let other : is_chosen c.args.choice (cells_of c.next_row.new.row) ≡ false = search rules in
-            rw w.table-is (passed_read c.args.header (rows_left c.args.reader.now) (is_chosen c.args.choice) c.loop-number.number c.loop-number.table
-            (rows_left c.loop-number.reader) (cells_of c.next_row.new.row) (rows_left c.next_row.new.reader) c.loop-number.invariant.read next long other)
-      ];
+      read = rw c.in_ok-table.ensures.value (row_read c.args.header (rows_left c.args.reader.now) c.args.choice c.loop-number.number c.loop-number.table
+          (rows_left c.loop-number.reader) (cells_of c.next_row.new.row) (rows_left c.next_row.new.reader) c.loop-number.invariant.read c.requires.header next long);
     }

@@ -1,12 +1,10 @@
-use Rattle.std.proofs.Common.{◌≡◌, ◌∙◌, ◌++◌, sym, ap}
+use Rattle.std.proofs.Common.{◌≡◌, ◌∙◌, sym}
 use Rattle.std.proofs.lemmas.Result.{IfOk-weaker}
 use Rattle.d_table.specs.Table.{rows_of}
-use Rattle.d_table.specs.Reading.{rows_left}
-use Rattle.d_table.proofs.RowFacts.{filter-all}
 use Rattle.d_table.proofs.read.read_table.Goals as goal
 
 pub returns-in-Some-clause-value : goal.returns-in-Some-clause-value
 returns-in-Some-clause-value c =
     let header = rw c.in-Some.is at c.in_ok-table.ensures.header in
-    let whole = ap (λ rows. c.in-Some.table ++ rows) (filter-all (rows_left c.read_header.new.reader)) ∙ sym header.1 ∙ c.reader_of-reader.ensures.rows in
+    let whole = sym header.1 ∙ c.reader_of-reader.ensures.rows in
     IfOk-weaker c.read_rows.result _ (λ table. table ≡ rows_of c.args.bytes.now) (λ table is. is ∙ whole) c.read_rows.ensures.value
