@@ -35,7 +35,7 @@ pub(crate) enum Cause {
     NetMetering,
     /// Buying all and selling all.
     BuyAllSellAll,
-    /// Kept for records that were billed hour by hour before that was read; none is refused for it.
+    /// A rule by the hour beside readings of another length, which a record by itself can't be refused for.
     HourlyRule,
     /// A price of coincident demand.
     Coincident,

@@ -1,5 +1,6 @@
 //! A record with most of what a tariff has.
 
+use d_cal::Month;
 use d_table::read_table;
 use d_tariff::{Charge, ChargeUnit, Tariff};
 use d_urdb::{RuleChoice, read_record};
@@ -36,6 +37,20 @@ fn tiers_of_demand_are_read(rt: HostRuntime) -> Result<(), Fail> {
 }
 
 #[test]
+fn a_month_has_its_periods(rt: HostRuntime) -> Result<(), Fail> {
+    let tariff = whole_tariff(rt.alloc())?;
+    let june = Month::new(2025, 6).expect(&rt, "a month");
+    assert!(rt; june.days() >= 1);
+    let period = tariff.period_at(june, 1, 23);
+    assert!(rt; period.tiers.price(0).units() == 100_000_000_000_000_000);
+    let tiers = tariff.flat_tiers(june).expect(&rt, "tiers of flat demand");
+    assert!(rt; tiers.price(0).units() == 5_000_000_000_000_000_000);
+    let december = Month::new(2025, 12).expect(&rt, "a month");
+    assert!(rt; tariff.flat_tiers(december).is_none());
+    Ok(())
+}
+
+#[test]
 fn months_and_fractions_are_read(rt: HostRuntime) -> Result<(), Fail> {
     let tariff = whole_tariff(rt.alloc())?;
     assert!(rt; tariff.flat_months == [2, 2, 2, 2, 2, 2, 2, 2, 2, 2, 2, 35]);
@@ -50,14 +65,19 @@ fn months_and_fractions_are_read(rt: HostRuntime) -> Result<(), Fail> {
 fn charges_are_read(rt: HostRuntime) -> Result<(), Fail> {
     let tariff = whole_tariff(rt.alloc())?;
     let minimum = tariff.minimum.expect(&rt, "a minimum");
-    assert!(rt; is_charge(minimum, 20_000_000_000_000_000_000_000, ChargeUnit::Month));
+    assert!(rt; is_charge(minimum, 20_000_000_000_000_000_000_000, "month"));
     let fixed = tariff.fixed;
-    assert!(rt; is_charge(fixed, 1_500_000_000_000_000_000_000, ChargeUnit::Day));
+    assert!(rt; is_charge(fixed, 1_500_000_000_000_000_000_000, "day"));
     Ok(())
 }
 
-fn is_charge(charge: Charge, units: i128, unit: ChargeUnit) -> bool {
-    charge.amount.units() == units && charge.unit == unit
+fn is_charge(charge: Charge, units: i128, unit: &str) -> bool {
+    let said = match charge.unit {
+        ChargeUnit::Day => "day",
+        ChargeUnit::Month => "month",
+        ChargeUnit::Year => "year",
+    };
+    charge.amount.units() == units && said == unit
 }
 
 #[test]
