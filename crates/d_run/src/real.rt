@@ -1,6 +1,6 @@
 //! The desk of real files and of standard output.
 
-ghost use Rattle.std.specs.Prelude.{ℕ, [], None, is_some, min, ◌≡◌, ◌≤◌, ◌+◌, ◌-◌, ◌^◌};
+ghost use Rattle.std.specs.Prelude.{◌≡◌, ◌≤◌, length, IfOk};
 ghost use Rattle.d_desk.specs.Cause.{Rose};
 
 use d_desk::{Desk, DeskFault};
@@ -10,7 +10,8 @@ use std::{fs, io};
 
 /// Files and standard output of the system. It tells nothing of what they hold: what a real file gives or keeps is trusted.
 ///
-/// It counts each error but want of memory, and each call that took nothing of a part that wasn't empty.
+/// It counts each error but want of memory, and each call that took nothing of a part that wasn't empty. A call that a signal
+/// interrupted is made again.
 #[derive(Drop)]
 pub struct RealDesk<R: Files + Print + Drop> {
     rt: R,
@@ -30,13 +31,6 @@ impl<R: Files + Print + Drop> RealDesk<R> {
             taken: 0,
             faults: 0,
         }
-    }
-
-    /// What it was made from. What is open is closed.
-    #[cfg(test)]
-    pub fn into_runtime(self) -> R {
-        let RealDesk { rt, .. } = self;
-        rt
     }
 }
 
@@ -68,7 +62,7 @@ impl<R: Files + Print + Drop> Desk for RealDesk<R> {
     }
 
     fn read(&mut self, room: &mut [u8]) -> Result<usize, DeskFault> {
-        match self.input.as_mut().unwrap().read(room) {
+        match read_again(self.input.as_mut().unwrap(), room) {
             Ok(count) => {
                 self.taken = self.taken.saturating_add(count as u64);
                 Ok(count)
@@ -89,7 +83,7 @@ impl<R: Files + Print + Drop> Desk for RealDesk<R> {
     }
 
     fn save(&mut self, part: &[u8]) -> Result<usize, DeskFault> {
-        match self.output.as_mut().unwrap().write(part) {
+        match write_again(self.output.as_mut().unwrap(), part) {
             Ok(0) if !part.is_empty() => Err(one_more(&mut self.faults)),
             Ok(count) => Ok(count),
             Err(error) => Err(counted(&mut self.faults, &error)),
@@ -102,12 +96,46 @@ impl<R: Files + Print + Drop> Desk for RealDesk<R> {
     }
 
     fn print(&mut self, part: &[u8]) -> Result<usize, DeskFault> {
-        match io::writer(&self.rt).write(part) {
+        match write_again(&mut io::writer(&self.rt), part) {
             Ok(0) if !part.is_empty() => Err(one_more(&mut self.faults)),
             Ok(count) => Ok(count),
             Err(error) => Err(counted(&mut self.faults, &error)),
         }
     }
+}
+
+/// Reads into the room, once more after each call that a signal interrupted.
+fn read_again<F: Read>(file: &mut F, room: &mut [u8]) -> io::Result<usize>
+    ensures { IfOk result (λ count. count ≤ length room.new) }
+{
+    for _ in 0..u64::MAX {
+        match file.read(room) {
+            Ok(count) => return Ok(count),
+            Err(error) => {
+                if error.kind() != ErrorKind::Interrupted {
+                    return Err(error);
+                }
+            }
+        }
+    }
+    Err(io::Error::from(ErrorKind::Interrupted))
+}
+
+/// Writes a front of the part, once more after each call that a signal interrupted.
+fn write_again<W: Write>(writer: &mut W, part: &[u8]) -> io::Result<usize>
+    ensures { IfOk result (λ count. count ≤ length part.now) }
+{
+    for _ in 0..u64::MAX {
+        match writer.write(part) {
+            Ok(count) => return Ok(count),
+            Err(error) => {
+                if error.kind() != ErrorKind::Interrupted {
+                    return Err(error);
+                }
+            }
+        }
+    }
+    Err(io::Error::from(ErrorKind::Interrupted))
 }
 
 /// What the desk answers to an error of the system: want of memory isn't counted, and every other error is.
