@@ -16,7 +16,7 @@ use Rattle.d_path.specs.Arcs.{intervals_of, arc_cost, level_after, along, way_co
 use Rattle.d_path.proofs.CostLemmas.{along_there}
 use Rattle.d_path.proofs.WayLemmas.{way_length}
 use Rattle.d_run.specs.PlanWays.{plan_arcs}
-use Rattle.d_run.proofs.PriceLaws.{taken_at, price_more}
+use Rattle.d_run.proofs.PriceLaws.{import_at, price_more}
 use Rattle.d_run.proofs.PlanArcs.{intervals_is, arc_cost_is}
 use Rattle.d_run.proofs.PlanSteps.{Steps, step_of, keeps_of, mode_within}
 
@@ -34,14 +34,14 @@ level_none i s = let changes = sum_of_first-none (λ k. change_of i (slice_index
 record MakesUp (i : Inputs) (s : List ℕ) (t : ℕ) (p : Pot) : Type 0 where
   rest : ℤ
   is : p ≡ To rest
-  whole : i.price *ℤ sum_of_first t (taken_at i s) +ℤ rest ≡ i.price *ℤ sum_of_first (length i.net) (taken_at i s)
+  whole : i.price *ℤ sum_of_first t (import_at i s) +ℤ rest ≡ i.price *ℤ sum_of_first (length i.net) (import_at i s)
 
 -- what is paid in an interval and what is paid after it
-made_up : (i : Inputs) (s : List ℕ) (t : ℕ) (p : Pot) → MakesUp i s (t + 1) p → MakesUp i s t (joined (To (i.price *ℤ taken_at i s t)) p)
+made_up : (i : Inputs) (s : List ℕ) (t : ℕ) (p : Pot) → MakesUp i s (t + 1) p → MakesUp i s t (joined (To (i.price *ℤ import_at i s t)) p)
 made_up i s t p up = record {
-  rest = i.price *ℤ taken_at i s t +ℤ up.rest;
-  is = ap (joined (To (i.price *ℤ taken_at i s t))) up.is;
-  whole = sums (i.price *ℤ sum_of_first t (taken_at i s)) (i.price *ℤ taken_at i s t) up.rest (i.price *ℤ sum_of_first (t + 1) (taken_at i s)) (i.price *ℤ sum_of_first (length i.net) (taken_at i s)) (price_more i s t) up.whole;
+  rest = i.price *ℤ import_at i s t +ℤ up.rest;
+  is = ap (joined (To (i.price *ℤ import_at i s t))) up.is;
+  whole = sums (i.price *ℤ sum_of_first t (import_at i s)) (i.price *ℤ import_at i s t) up.rest (i.price *ℤ sum_of_first (t + 1) (import_at i s)) (i.price *ℤ sum_of_first (length i.net) (import_at i s)) (price_more i s t) up.whole;
 }
   where
     sums : (before here after with_here whole : ℤ) → with_here ≡ before +ℤ here → with_here +ℤ after ≡ whole → before +ℤ (here +ℤ after) ≡ whole
@@ -73,7 +73,7 @@ module _ (i : Inputs) (fine : IsInRange i) (s : List ℕ) where
 
   -- one more interval of a way
   way_more : (t level after : ℕ) → t < length i.net → t < length s → Steps i t (slice_index s t) level after → slice_index s t < length i.storage.modes →
-      way_cost (plan_arcs i) t level (drop t s) ≡ joined (To (i.price *ℤ taken_at i s t)) (way_cost (plan_arcs i) (t + 1) after (drop (t + 1) s))
+      way_cost (plan_arcs i) t level (drop t s) ≡ joined (To (i.price *ℤ import_at i s t)) (way_cost (plan_arcs i) (t + 1) after (drop (t + 1) s))
   way_more t level after inside there step mode =
       ap (way_cost (plan_arcs i) t level) (drop_more s t 0 there)
       ∙ ap (λ (o : Option ℕ). along (arc_cost (plan_arcs i) t (slice_index s t)) o (λ after. way_cost (plan_arcs i) (t + 1) after (drop (t + 1) s))) step.leads
@@ -85,7 +85,7 @@ module _ (i : Inputs) (fine : IsInRange i) (s : List ℕ) where
       let e : t ≡ length i.net = omega arith in
       let ends : pos i.storage.end ≤ℤ level_at i s t = rw e feasible.ends in
       let enough : i.storage.end ≤ level = omega (arith, ints, ends, stands) in
-      let price : i.price *ℤ sum_of_first t (taken_at i s) ≡ i.price *ℤ sum_of_first (length i.net) (taken_at i s) = ap (λ (n : ℕ). i.price *ℤ sum_of_first n (taken_at i s)) e in
+      let price : i.price *ℤ sum_of_first t (import_at i s) ≡ i.price *ℤ sum_of_first (length i.net) (import_at i s) = ap (λ (n : ℕ). i.price *ℤ sum_of_first n (import_at i s)) e in
       record {
         rest = pos 0;
         is = ap (way_cost (plan_arcs i) t level) (drop_all t s (omega (arith, feasible.long))) ∙ at_end t level e enough;
@@ -129,9 +129,9 @@ module _ (i : Inputs) (fine : IsInRange i) (s : List ℕ) where
   pub feasible_cost : IsFeasible i s → way_cost (plan_arcs i) 0 i.storage.start s ≡ To (bill_of i s)
   feasible_cost feasible =
       let up = feasible_rest feasible (length i.net) 0 i.storage.start (omega arith) (level_none i s) in
-      up.is ∙ ap To (sums up.rest (sum_of_first-none (taken_at i s)) up.whole)
+      up.is ∙ ap To (sums up.rest (sum_of_first-none (import_at i s)) up.whole)
     where
-      sums : (rest : ℤ) → sum_of_first 0 (taken_at i s) ≡ pos 0 → i.price *ℤ sum_of_first 0 (taken_at i s) +ℤ rest ≡ bill_of i s → rest ≡ bill_of i s
+      sums : (rest : ℤ) → sum_of_first 0 (import_at i s) ≡ pos 0 → i.price *ℤ sum_of_first 0 (import_at i s) +ℤ rest ≡ bill_of i s → rest ≡ bill_of i s
       sums rest none whole = let e : i.price *ℤ pos 0 +ℤ rest ≡ bill_of i s = rw none at whole in omega (arith, ints)
 
   -- and every way is one

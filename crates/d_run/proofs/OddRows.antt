@@ -3,7 +3,7 @@ use Rattle.std.proofs.Common.{◌≡◌, ℕ, ◌+◌, ℤ, List, [], ◌∷◌,
 use Rattle.std.proofs.lemmas.List.{length-map}
 use Rattle.std.proofs.lemmas.Option.{slice_get_cases}
 use Rattle.std.specs.Str.{str_to_ascii_lowercase}
-use Rattle.d_table.specs.Table.{row_at, IsFirstOdd, IsHeader}
+use Rattle.d_table.specs.Table.{row_at, IsRectangular, IsFirstOdd, IsHeader}
 use Rattle.d_table.specs.Fault.{IsTableFault}
 use Rattle.d_table.specs.declared.table.TableFault.{TableFault}
 use Rattle.d_table.specs.declared.table.TableFault.TheVariants.{Shape, Memory}
@@ -22,6 +22,10 @@ table_refused rows Memory none refused = absurd (differ refused)
   where
     differ : NoMemory ≡ Refused → ⊥
     differ e = cc
+
+-- rows of one length have no odd row
+pub no_odd : (rows : List (List (List ℕ))) (row : ℕ) → IsRectangular rows → IsFirstOdd rows row → ⊥
+no_odd rows row even odd = odd.odd (even (row + 1) [] odd.there)
 
 -- so many names are in a header
 pub header_long : (names header : List (List ℕ)) → IsHeader names header → length header ≡ length names

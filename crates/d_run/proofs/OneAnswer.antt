@@ -1,5 +1,5 @@
 -- To every list of words and all files there is exactly one answer.
-use Rattle.std.proofs.Common.{◌≡◌, ◌⊎◌, inl, inr, ℕ, ◌^◌, ◌<◌, ◌≤◌, ℤ, List, length, refl, sym, ap, subst, ◌∙◌, arith}
+use Rattle.std.proofs.Common.{◌≡◌, ◌⊎◌, inl, inr, ℕ, ◌<◌, ◌≤◌, ℤ, List, length, refl, sym, ap, subst, ◌∙◌, arith}
 use Rattle.d_desk.specs.Scene.{Files, bytes_in}
 use Rattle.d_model.specs.Inputs.{Inputs, IsInRange}
 use Rattle.d_model.specs.Schedules.{IsFeasible, IsFirstBreak}
@@ -12,7 +12,7 @@ use Rattle.d_tariff.specs.Terms.{Terms}
 use Rattle.d_run.specs.Record.{IsRecord, IsOnePrice}
 use Rattle.d_run.specs.BatteryFile.{IsBatteryFile}
 use Rattle.d_run.specs.ReadingsFile.{Hourly, IsHourly}
-use Rattle.d_run.specs.Answer.{Answer, Reads, is_too_long, is_refused, goes_on, says, after_opening, refused, IsPlanned, no_schedule, least, IsBilled, billed, broken, IsFor, IsPriced, no_price, one_price, IsWithTerms, IsAnswerTo, IsAnswer, no_request, request, hourly_inputs, rows_in, ReadsSchedule, RefusesRecord, RefusesReadings, RefusesBattery, RefusesSchedule, MeansSchedule}
+use Rattle.d_run.specs.Answer.{Answer, Reads, is_too_long, is_refused, goes_on, says, after_opening, refused, IsPlanned, no_schedule, least, IsBilled, billed, broken, IsFor, IsPriced, no_price, one_price, IsWithTerms, IsAnswerTo, IsAnswer, no_request, request, hourly_inputs, rows_in, ReadsSchedule, RefusesRecord, RefusesReadings, RefusesBattery, RefusesSchedule, MeansSchedule, longest_file, longest_record}
 use Rattle.d_run.specs.Law.{HasAnswer}
 use Rattle.d_run.specs.declared.verdict.Verdict.TheVariants as verdict
 use Rattle.d_run.specs.declared.fault.Refusal.{Refusal}
@@ -132,16 +132,16 @@ module _ (files : Files) (asked : Asked) where
   task_one : (price : ℤ) (month : Hourly) (wanted : Wanted) → IsRate price → IsHourly (rows_in files asked.readings) month
       → HasOne (IsFor files asked.label price month wanted)
   task_one price month (plan_with battery) fair month_is =
-      reads_one files battery (2 ^ 24) LongBattery (RefusesBattery (rows_in files battery)) (IsBatteryFile (rows_in files battery))
+      reads_one files battery longest_file LongBattery (RefusesBattery (rows_in files battery)) (IsBatteryFile (rows_in files battery))
       (λ storage. IsPlanned (hourly_inputs price month storage) asked.label) (battery_known (rows_in files battery))
       (λ storage means. planned_one (hourly_inputs price month storage) asked.label
       (hourly_in_range (rows_in files asked.readings) (rows_in files battery) price month storage fair month_is means))
   task_one price month wants_metered_bill fair month_is = said_one _
   task_one price month (schedule_bill battery schedule) fair month_is =
-      reads_one files battery (2 ^ 24) LongBattery (RefusesBattery (rows_in files battery)) (IsBatteryFile (rows_in files battery))
+      reads_one files battery longest_file LongBattery (RefusesBattery (rows_in files battery)) (IsBatteryFile (rows_in files battery))
       (λ storage. ReadsSchedule files schedule (hourly_inputs price month storage) (IsBilled (hourly_inputs price month storage) asked.label))
       (battery_known (rows_in files battery))
-      (λ storage means. reads_one files schedule (2 ^ 24) LongSchedule (RefusesSchedule (hourly_inputs price month storage) (rows_in files schedule))
+      (λ storage means. reads_one files schedule longest_file LongSchedule (RefusesSchedule (hourly_inputs price month storage) (rows_in files schedule))
       (MeansSchedule (hourly_inputs price month storage) (rows_in files schedule)) (IsBilled (hourly_inputs price month storage) asked.label)
       (schedule_known (hourly_inputs price month storage) (rows_in files schedule) means.valid)
       (λ modes is. billed_one (hourly_inputs price month storage) asked.label modes is.1.long))
@@ -149,9 +149,9 @@ module _ (files : Files) (asked : Asked) where
   request_one : HasOne (IsAnswerTo files asked)
   request_one =
       let records = rows_in files asked.records in
-      reads_one files asked.records (2 ^ 30) LongRecord (RefusesRecord records asked.label asked.rule) (IsRecord records asked.label asked.rule)
+      reads_one files asked.records longest_record LongRecord (RefusesRecord records asked.label asked.rule) (IsRecord records asked.label asked.rule)
       (IsWithTerms files asked) (record_known records asked.label asked.rule)
-      (λ terms record_is. reads_one files asked.readings (2 ^ 24) LongReadings (RefusesReadings (rows_in files asked.readings)) (IsHourly (rows_in files asked.readings))
+      (λ terms record_is. reads_one files asked.readings longest_file LongReadings (RefusesReadings (rows_in files asked.readings)) (IsHourly (rows_in files asked.readings))
       (λ month. IsPriced terms month (λ price. IsFor files asked.label price month asked.wanted)) (month_known (rows_in files asked.readings))
       (λ month month_is. priced_one terms month (λ price. IsFor files asked.label price month asked.wanted)
       (λ price one. task_one price month asked.wanted (price_in_range records asked.label asked.rule terms month.year month.number price record_is one) month_is)))

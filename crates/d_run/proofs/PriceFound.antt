@@ -42,7 +42,7 @@ pub zero_by_bits : (price : ℤ) → IsRate price → of_z w128 price ≡ 0 → 
 zero_by_bits (pos units) fair same = ap pos same
 zero_by_bits (negsuc units) fair same = absurd (omega (arith, ints, fair.0, same))
 
--- a period of one tier that pays nothing for energy sent out is one of its price
+-- a period of one tier that pays nothing for export is one of its price
 pub flat_of : (period : Period) → length period.tiers ≡ 1 → IsTierTable period.tiers → period.sell ≡ pos 0 → period ≡ flat_period (price_at period.tiers 0)
 flat_of period long table nothing_paid = by_tiers period.tiers period.sell long table.whole nothing_paid
   where

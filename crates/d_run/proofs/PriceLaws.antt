@@ -37,11 +37,11 @@ sum_low zero f low = omega (arith, ints)
 sum_low (suc n) f low = omega (arith, ints, sum_low n f low, low n)
 
 -- what a schedule takes in an interval
-abbrev pub taken_at : Inputs → List ℕ → ℕ → ℤ
-taken_at i s t = import_with i t (slice_index s t)
+abbrev pub import_at : Inputs → List ℕ → ℕ → ℤ
+import_at i s t = import_with i t (slice_index s t)
 
 -- one interval more adds its import at the price
-pub price_more : (i : Inputs) (s : List ℕ) (t : ℕ) → i.price *ℤ sum_of_first (t + 1) (taken_at i s) ≡ i.price *ℤ sum_of_first t (taken_at i s) +ℤ i.price *ℤ taken_at i s t
+pub price_more : (i : Inputs) (s : List ℕ) (t : ℕ) → i.price *ℤ sum_of_first (t + 1) (import_at i s) ≡ i.price *ℤ sum_of_first t (import_at i s) +ℤ i.price *ℤ import_at i s t
 price_more i s t =
-    ap (λ (z : ℤ). i.price *ℤ z) (sum_of_first-more t (taken_at i s))
-    ∙ price_of_sum i.price (sum_of_first t (taken_at i s)) (taken_at i s t) (sum_low t (taken_at i s) (λ k. import_low i k (slice_index s k))) (import_low i t (slice_index s t))
+    ap (λ (z : ℤ). i.price *ℤ z) (sum_of_first-more t (import_at i s))
+    ∙ price_of_sum i.price (sum_of_first t (import_at i s)) (import_at i s t) (sum_low t (import_at i s) (λ k. import_low i k (slice_index s k))) (import_low i t (slice_index s t))

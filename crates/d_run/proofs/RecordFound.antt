@@ -10,6 +10,7 @@ use Rattle.d_urdb.specs.declared.fault.Refused.{Refused}
 use Rattle.d_urdb.specs.declared.rule.RuleChoice.{RuleChoice}
 use Rattle.d_run.specs.Record.{HasOutcome, IsRecord, IsRecordFault, rows_with_label}
 use Rattle.d_run.specs.RecordText.{record_text}
+use Rattle.d_run.proofs.OddRows.{no_odd}
 use Rattle.d_run.specs.Answer.{Answer, says, refused, RefusesRecord}
 use Rattle.d_run.specs.declared.verdict.Verdict.TheVariants.{Record}
 use Rattle.d_run.specs.declared.fault.Refusal.TheVariants.{RecordShape}
@@ -29,10 +30,6 @@ record_ends rows table label text rule why fault even kept same outcome ends =
     ap (λ (t : List (List (List ℕ))). record_text t why) kept ∙ ap (λ (l : List ℕ). record_text (rows_with_label l rows) why) same in
     ends_weaker (λ end. end ≡ says Record (record_text table why)) (RefusesRecord rows label rule) fault
     (λ end is. inr (why, record { rectangular = even; is = subst Q same (subst P kept outcome) }, is ∙ ap (λ (t : List ℕ). says Record t) shown)) ends
-
--- rows that have one length have no odd row
-no_odd : (rows : List (List (List ℕ))) (row : ℕ) → IsRectangular rows → IsFirstOdd rows row → ⊥
-no_odd rows row even odd = odd.odd (even (row + 1) [] odd.there)
 
 -- two rows that are first odd are one
 odd_same : (rows : List (List (List ℕ))) (a b : ℕ) → IsFirstOdd rows a → IsFirstOdd rows b → a ≡ b

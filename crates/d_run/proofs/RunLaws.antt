@@ -6,7 +6,7 @@ use Rattle.d_desk.specs.Stages.{PrintsOnly, PrintsFront}
 use Rattle.d_desk.proofs.Fronts.{gains_none, gains_all}
 use Rattle.d_run.specs.Answer.{Answer, IsAnswer}
 use Rattle.d_run.specs.Runs.{IsCutShort}
-use Rattle.d_run.specs.Replies.{IsPrepared, StopsOpening, IsGiven, Prepares}
+use Rattle.d_run.specs.Replies.{IsPrepared, StopsOpening, IsGiven, PreparesOne}
 use Rattle.d_run.specs.declared.reply.Reply.{Reply}
 use Rattle.d_run.specs.declared.fault.Fault.{Fault}
 use Rattle.d_run.specs.declared.fault.Fault.TheVariants.{Refused}
@@ -49,13 +49,13 @@ pub cut_in_opening : (words : List (List ℕ)) (x y : Scene) → StopsOpening (I
 cut_in_opening words x y stops = record { printed = λ answer is. gains_none answer.text stops.printed; opened = stops.opened; files = stops.files }
 
 -- a run that prepares nothing is cut short
-pub cut_by_fault : (words : List (List ℕ)) (x y : Scene) (fault other : Fault) → fault ≡ other → Prepares (IsAnswer words x.files) x y (Err fault)
-    → (Prepares (IsAnswer words x.files) x y (Err other) → StopsOpening (IsAnswer words x.files) x y) → IsCutShort words x y
+pub cut_by_fault : (words : List (List ℕ)) (x y : Scene) (fault other : Fault) → fault ≡ other → PreparesOne (IsAnswer words x.files) x y (Err fault)
+    → (PreparesOne (IsAnswer words x.files) x y (Err other) → StopsOpening (IsAnswer words x.files) x y) → IsCutShort words x y
 cut_by_fault words x y fault other same prepares stops =
-    let P : Fault → Type 0 = λ f. Prepares (IsAnswer words x.files) x y (Err f) in cut_in_opening words x y (stops (subst P same prepares))
+    let P : Fault → Type 0 = λ f. PreparesOne (IsAnswer words x.files) x y (Err f) in cut_in_opening words x y (stops (subst P same prepares))
 
 -- what is prepared where a refusal is known by an equation
 pub refusal_known : (words : List (List ℕ)) (x y : Scene) (fault : Fault) (reply : Reply) → fault ≡ Refused reply
-    → Prepares (IsAnswer words x.files) x y (Err fault) → IsPrepared (IsAnswer words x.files) x y reply
+    → PreparesOne (IsAnswer words x.files) x y (Err fault) → IsPrepared (IsAnswer words x.files) x y reply
 refusal_known words x y fault reply is prepares =
-    let P : Fault → Type 0 = λ f. Prepares (IsAnswer words x.files) x y (Err f) in subst P is prepares
+    let P : Fault → Type 0 = λ f. PreparesOne (IsAnswer words x.files) x y (Err f) in subst P is prepares

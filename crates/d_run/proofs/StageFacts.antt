@@ -7,7 +7,7 @@ use Rattle.d_desk.specs.declared.opened.Direction.TheVariants.{In}
 use Rattle.d_desk.proofs.Fronts.{front_front, gains_after}
 use Rattle.d_desk.proofs.StageLaws.{opens_none, opens_then, opens_some_all}
 use Rattle.d_run.specs.Answer.{Answer, Reads, is_too_long, is_refused, goes_on, after_opening}
-use Rattle.d_run.specs.Replies.{IsReply, EndsBy, Gives, IsStage, EndsAt, HasValue, IsPrepared, StopsOpening, Prepares}
+use Rattle.d_run.specs.Replies.{IsReply, EndsBy, Gives, IsStage, EndsAt, HasValue, IsPrepared, StopsOpening, PreparesOne}
 use Rattle.d_run.specs.declared.reply.Reply.{Reply}
 use Rattle.d_run.specs.declared.fault.Refusal.{Refusal}
 use Rattle.d_run.specs.declared.fault.Fault.{Fault}
@@ -36,12 +36,12 @@ stops_here Is x = record { files = refl; printed = refl; opened = λ answer is. 
     opens_nothing = (opens_none x).opened
 
 -- what is left where nothing more is opened
-pub ends_here : (Is : Answer → Type 0) (x : Scene) (fault : Fault) → EndsBy Is fault → Prepares Is x x (Err fault)
+pub ends_here : (Is : Answer → Type 0) (x : Scene) (fault : Fault) → EndsBy Is fault → PreparesOne Is x x (Err fault)
 ends_here Is x (Refused reply) r = reply_prepared Is x reply r
 ends_here Is x Failed r = absurd r
 ends_here Is x Memory r = stops_here Is x
 
-pub gives_here : (Is : Answer → Type 0) (x : Scene) (result : Result Reply Fault) → Gives (IsReply Is) Is result → Prepares Is x x result
+pub gives_here : (Is : Answer → Type 0) (x : Scene) (result : Result Reply Fault) → Gives (IsReply Is) Is result → PreparesOne Is x x result
 gives_here Is x (Ok reply) r = reply_prepared Is x reply r
 gives_here Is x (Err fault) r = ends_here Is x fault r
 
@@ -76,7 +76,7 @@ module _ {V : Type 0} (name : List ℕ) (limit : ℕ) (too_long : Refusal) (Refu
 
   -- a run that ends at this file
   pub stage_ends : {T : Type 0} (Has : T → Type 0) (x y : Scene) (fault : Fault) → IsStage {T = T} name Has (EndsAt x.files name limit too_long Refuses) x y (Err fault)
-      → Prepares (Reads x.files name limit too_long Refuses Means Next) x y (Err fault)
+      → PreparesOne (Reads x.files name limit too_long Refuses Means Next) x y (Err fault)
   stage_ends Has x y (Refused reply) stage = record {
     answer = after_opening name stage.1.answer;
     is = ended x.files stage.1.answer stage.1.is;
@@ -116,8 +116,8 @@ module _ {V : Type 0} (name : List ℕ) (limit : ℕ) (too_long : Refusal) (Refu
 
   -- a run that goes on behind this file
   pub stage_goes_on : (x y z : Scene) (value : V) (result : Result Reply Fault) → IsKnown Refuses Means → Opens (opening In name ∷ []) x y
-      → length (bytes_in x.files name) ≤ limit → Means value → Prepares (Next value) y z result
-      → Prepares (Reads x.files name limit too_long Refuses Means Next) x z result
+      → length (bytes_in x.files name) ≤ limit → Means value → PreparesOne (Next value) y z result
+      → PreparesOne (Reads x.files name limit too_long Refuses Means Next) x z result
   stage_goes_on x y z value result known opens within means = by_result result
     where
       prepared : (reply : Reply) → IsPrepared (Next value) y z reply → IsPrepared (Reads x.files name limit too_long Refuses Means Next) x z reply
@@ -139,7 +139,7 @@ module _ {V : Type 0} (name : List ℕ) (limit : ℕ) (too_long : Refusal) (Refu
             subst P (sym (ap (λ (a : Answer). a.openings) rest.2)) (gains_after (opening In name ∷ []) opens.opened (s.opened rest.0 rest.1));
       }
 
-      by_result : (result : Result Reply Fault) → Prepares (Next value) y z result → Prepares (Reads x.files name limit too_long Refuses Means Next) x z result
+      by_result : (result : Result Reply Fault) → PreparesOne (Next value) y z result → PreparesOne (Reads x.files name limit too_long Refuses Means Next) x z result
       by_result (Ok reply) p = prepared reply p
       by_result (Err (Refused reply)) p = prepared reply p
       by_result (Err Failed) s = stopped s
@@ -169,7 +169,7 @@ stage_from {T} files name limit too_long bytes Means Refuses x y result opens sa
 
 -- an answer that is prepared under one name is under another
 pub prepares_as : (P Q : Answer → Type 0) (x y : Scene) (result : Result Reply Fault) → ((answer : Answer) → P answer → Q answer) → ((answer : Answer) → Q answer → P answer)
-    → Prepares P x y result → Prepares Q x y result
+    → PreparesOne P x y result → PreparesOne Q x y result
 prepares_as P Q x y result there back = by_result result
   where
     prepared : (reply : Reply) → IsPrepared P x y reply → IsPrepared Q x y reply
@@ -178,7 +178,7 @@ prepares_as P Q x y result there back = by_result result
     stopped : StopsOpening P x y → StopsOpening Q x y
     stopped s = record { files = s.files; printed = s.printed; opened = λ answer is. s.opened answer (back answer is) }
 
-    by_result : (result : Result Reply Fault) → Prepares P x y result → Prepares Q x y result
+    by_result : (result : Result Reply Fault) → PreparesOne P x y result → PreparesOne Q x y result
     by_result (Ok reply) p = prepared reply p
     by_result (Err (Refused reply)) p = prepared reply p
     by_result (Err Failed) s = stopped s

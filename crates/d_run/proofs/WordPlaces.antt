@@ -79,8 +79,8 @@ two_behind front =
     }
 
 -- what is in front of them
-front_taken : (front : List (List ℕ)) → take (length (front ++ rule_words NetBilling) - 2) (front ++ rule_words NetBilling) ≡ front
-front_taken front =
+front_left : (front : List (List ℕ)) → take (length (front ++ rule_words NetBilling) - 2) (front ++ rule_words NetBilling) ≡ front
+front_left front =
     let long : length (front ++ rule_words NetBilling) ≡ length front + 2 = length-append front (rule_words NetBilling) in
     let first : length (front ++ rule_words NetBilling) - 2 ≡ length front = omega (arith, long) in
     ap (λ (n : ℕ). take n (front ++ rule_words NetBilling)) first ∙ take-append_seam front (rule_words NetBilling)
@@ -123,7 +123,7 @@ named_with_rule asked words None ends none rule = λ a same. by_rule a a.rule sa
     by_rule a AsRecorded same =
         front_alone a (subst EndsInRule (same ∙ append-nil (front_of a)) ends)
     by_rule a NetBilling same =
-        none a (ap (λ (ws : List (List ℕ)). take (length ws - 2) ws) same ∙ front_taken (front_of a))
+        none a (ap (λ (ws : List (List ℕ)). take (length ws - 2) ws) same ∙ front_left (front_of a))
 named_with_rule asked words (Some r) ends front rule =
     rule_behind words ends ∙ ap (λ (ws : List (List ℕ)). ws ++ rule_words NetBilling) front ∙ ap (λ (choice : RuleChoice). front_of (asked r) ++ rule_words choice) (sym rule)
 

@@ -70,7 +70,15 @@ refusal_text (Schedule fault) = line (codes "refused schedule " ++ schedule_faul
 abbrev pub refused : Refusal → Answer
 refused refusal = says (refusal_verdict refusal) (refusal_text refusal)
 
--- the part of a file in an answer: it is opened, and above its limit or refused by its rows it ends the answer; else its value goes on
+-- the greatest size of a record file, in bytes
+abbrev pub longest_record : ℕ
+longest_record = 2 ^ 30
+
+-- the greatest size of a readings, battery or schedule file, in bytes
+abbrev pub longest_file : ℕ
+longest_file = 2 ^ 24
+
+-- a file in an answer: it is opened, and above its limit or refused by its rows it ends the answer; else its value goes on
 pub data Reads {V : Type 0} (files : Files) (name : List ℕ) (limit : ℕ) (too_long : Refusal) (Refuses : Answer → Type 0) (Means : V → Type 0)
     (Next : V → Answer → Type 0) (answer : Answer) : Type 0 where
   is_too_long : limit < length (bytes_in files name) → answer ≡ after_opening name (refused too_long)
@@ -106,25 +114,25 @@ RefusesSchedule i rows end = ((IsRectangular rows → ⊥) × (end ≡ refused (
 abbrev pub MeansSchedule : Inputs → List (List (List ℕ)) → List ℕ → Type 0
 MeansSchedule i rows schedule = IsRectangular rows × IsScheduleFile i rows schedule
 
--- the record file comes first; it has at most 2^30 bytes
+-- the record file in an answer
 abbrev pub ReadsRecord : Files → List ℕ → List ℕ → RuleChoice → (Terms → Answer → Type 0) → Answer → Type 0
 ReadsRecord files name label rule Next answer =
-    Reads files name (2 ^ 30) LongRecord (RefusesRecord (rows_in files name) label rule) (IsRecord (rows_in files name) label rule) Next answer
+    Reads files name longest_record LongRecord (RefusesRecord (rows_in files name) label rule) (IsRecord (rows_in files name) label rule) Next answer
 
--- the readings file has at most 2^24 bytes
+-- the readings file in an answer
 abbrev pub ReadsReadings : Files → List ℕ → (Hourly → Answer → Type 0) → Answer → Type 0
 ReadsReadings files name Next answer =
-    Reads files name (2 ^ 24) LongReadings (RefusesReadings (rows_in files name)) (IsHourly (rows_in files name)) Next answer
+    Reads files name longest_file LongReadings (RefusesReadings (rows_in files name)) (IsHourly (rows_in files name)) Next answer
 
--- the battery file has at most 2^24 bytes
+-- the battery file in an answer
 abbrev pub ReadsBattery : Files → List ℕ → (Storage → Answer → Type 0) → Answer → Type 0
 ReadsBattery files name Next answer =
-    Reads files name (2 ^ 24) LongBattery (RefusesBattery (rows_in files name)) (IsBatteryFile (rows_in files name)) Next answer
+    Reads files name longest_file LongBattery (RefusesBattery (rows_in files name)) (IsBatteryFile (rows_in files name)) Next answer
 
--- the schedule file has at most 2^24 bytes
+-- the schedule file in an answer
 abbrev pub ReadsSchedule : Files → List ℕ → Inputs → (List ℕ → Answer → Type 0) → Answer → Type 0
 ReadsSchedule files name i Next answer =
-    Reads files name (2 ^ 24) LongSchedule (RefusesSchedule i (rows_in files name)) (MeansSchedule i (rows_in files name)) Next answer
+    Reads files name longest_file LongSchedule (RefusesSchedule i (rows_in files name)) (MeansSchedule i (rows_in files name)) Next answer
 
 -- what is planned or billed: the price, a month of hourly readings and a battery
 abbrev pub hourly_inputs : ℤ → Hourly → Storage → Inputs
@@ -133,11 +141,20 @@ hourly_inputs price month storage =
 
 -- no battery: no level but 0, and one mode that changes nothing
 abbrev pub no_storage : Storage
-no_storage = record { floor = 0; capacity = 0; start = 0; end = 0; max_import = pos (10 ^ 10); max_export = pos (10 ^ 10); modes = record { name = codes "idle"; change = pos 0; grid = pos 0; low = 0; high = 255 } ∷ [] }
+no_storage = record {
+  floor = 0;
+  capacity = 0;
+  start = 0;
+  end = 0;
+  max_import = pos (10 ^ 10);
+  max_export = pos (10 ^ 10);
+  modes = record { name = codes "idle"; change = pos 0; grid = pos 0; low = 0; high = 255 } ∷ [];
+}
 
 -- the answer to a request for a plan: the first least schedule, or that no schedule is feasible
 pub data IsPlanned (i : Inputs) (label : List ℕ) (answer : Answer) : Type 0 where
-  no_schedule : ((schedule : List ℕ) → IsFeasible i schedule → ⊥) → answer ≡ says verdict.NoSchedule (line (codes "no schedule")) → IsPlanned i label answer
+  no_schedule : ((schedule : List ℕ) → IsFeasible i schedule → ⊥) → answer ≡ says verdict.NoSchedule (line (codes "no schedule"))
+      → IsPlanned i label answer
   least : (schedule : List ℕ) → IsFirstLeast i schedule → answer ≡ says verdict.Done (plan_text i label schedule) → IsPlanned i label answer
 
 -- the answer to a request for the bill of a schedule: the bill, or the first interval in which it breaks a rule
@@ -160,7 +177,8 @@ IsFor files label price month (schedule_bill battery schedule) answer =
 
 -- the answer where terms and month are known: all energy of the month has one price, or the record is refused after all
 pub data IsPriced (terms : Terms) (month : Hourly) (Next : ℤ → Answer → Type 0) (answer : Answer) : Type 0 where
-  no_price : ((price : ℤ) → IsOnePrice terms month.year month.number price → ⊥) → answer ≡ refused NotYet → IsPriced terms month Next answer
+  no_price : ((price : ℤ) → IsOnePrice terms month.year month.number price → ⊥) → answer ≡ refused NotYet
+      → IsPriced terms month Next answer
   one_price : (price : ℤ) → IsOnePrice terms month.year month.number price → Next price answer → IsPriced terms month Next answer
 
 -- the answer where the terms are known

@@ -1,5 +1,5 @@
 -- What the reader of a battery file keeps of the rows that it has read.
-use Rattle.std.specs.Prelude.{◌≡◌, ℕ, ◌+◌, ◌^◌, ◌≤◌, ℤ, pos, List, length, All, Option, Some, IfSome, unwrap_or, slice_get}
+use Rattle.std.specs.Prelude.{◌≡◌, ℕ, ◌+◌, ◌^◌, ◌≤◌, ℤ, pos, List, [], ◌∷◌, ◌++◌, length, All, Option, Some, IfSome, unwrap_or, slice_get, if◌then◌else◌}
 use Rattle.d_num.specs.Amount.{IsUpTo}
 use Rattle.d_model.specs.Storage.{Storage, IsMode, IsStorage, HasDifferentNames}
 use Rattle.d_run.specs.declared.draft.Draft.{Draft}
@@ -8,7 +8,7 @@ use Rattle.d_run.specs.declared.entry.Setting.TheVariants.{Capacity, Floor, Star
 use Rattle.d_run.specs.declared.entry.Entry.{Entry}
 use Rattle.d_run.specs.declared.entry.Entry.TheVariants.{Sets, Has}
 use Rattle.d_table.specs.Table.{row_at}
-use Rattle.d_run.specs.BatteryFile.{IsEntry, setting_limit, modes_of, values_of, value_of}
+use Rattle.d_run.specs.BatteryFile.{IsEntry, is_same_setting, setting_limit, modes_of, values_of, value_of}
 
 -- the entries are those of the first rows, so many with the header
 pub record AreEntries (rows : List (List (List ℕ))) (count : ℕ) (entries : List Entry) : Type 0 where
@@ -20,6 +20,10 @@ pub record IsUsable (entries : List Entry) : Type 0 where
   pub once : (setting : Setting) → length (values_of setting entries) ≤ 1
   pub few_modes : length (modes_of entries) ≤ 64
   pub names : HasDifferentNames (modes_of entries)
+
+-- no usable entries are those of all rows
+abbrev pub HasNoUsableEntries : List (List (List ℕ)) → Type 0
+HasNoUsableEntries rows = (entries : List Entry) → AreEntries rows (length rows) entries → IsUsable entries → ⊥
 
 -- what an entry sets or has keeps its limits
 abbrev pub IsLimited : Entry → Type 0
@@ -59,3 +63,16 @@ pub record MakesStorage (draft : Draft) (storage : Storage) : Type 0 where
   pub max_export : storage.max_export ≡ unwrap_or draft.max_export (pos (10 ^ 10))
   pub modes : storage.modes ≡ draft.modes
   pub valid : IsStorage storage
+
+-- where the draft had what some entries say, it now has what they and this one say
+abbrev pub Takes : Entry → Draft → Draft → Type 0
+Takes entry before now = (entries : List Entry) → IsDraftOf entries before → IsLimited entry → IsDraftOf (entries ++ entry ∷ []) now
+
+-- where the draft has what some entries say, they and this one aren't usable
+abbrev pub CantTake : Entry → Draft → Type 0
+CantTake entry draft = (entries : List Entry) → IsDraftOf entries draft → IsUsable (entries ++ entry ∷ []) → ⊥
+
+-- one setting has this value now, and the others have theirs
+abbrev pub SetsValue : Setting → ℤ → Draft → Draft → Type 0
+SetsValue setting value before now =
+    (other : Setting) → value_in now other ≡ (if is_same_setting other setting then Some value else value_in before other)

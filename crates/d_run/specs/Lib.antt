@@ -13,3 +13,4 @@ pub mod PlanLines
 pub mod Law
 pub mod Draft
 pub mod Faults
+pub mod Prepared

@@ -1,5 +1,6 @@
 -- The ways of a problem: its modes as moves, and what each mode costs in each interval. All of it is our own rule.
-use Rattle.std.specs.Prelude.{ℕ, ◌*◌, ◌/◌, ◌%◌, ℤ, ◌*ℤ◌, List, Option, Some, None, length, map}
+use Rattle.std.specs.Prelude.{◌≡◌, ℕ, ◌*◌, ◌/◌, ◌%◌, ℤ, ◌*ℤ◌, List, Option, Some, None, Vec, length, map, MatchOption}
+use Rattle.std.specs.declared.alloc.Global.{Global}
 use Rattle.std.specs.List.{range_with_len}
 use Rattle.d_num.specs.declared.pot.Pot.{Pot}
 use Rattle.d_num.specs.declared.pot.Pot.TheVariants.{To, NoWay}
@@ -8,7 +9,10 @@ use Rattle.d_model.specs.declared.mode.Mode.{Mode}
 use Rattle.d_model.specs.Inputs.{Inputs}
 use Rattle.d_model.specs.Flows.{arc_of}
 use Rattle.d_path.specs.declared.ways.Move.{Move}
-use Rattle.d_path.specs.Arcs.{Arcs}
+use Rattle.d_model.specs.Schedules.{IsFeasible}
+use Rattle.d_model.specs.Bills.{IsFirstLeast}
+use Rattle.d_path.specs.Arcs.{Arcs, way_cost}
+use Rattle.d_path.specs.Cheapest.{IsFirstCheapest}
 
 -- an import at a price; no way where nothing is permitted
 abbrev pub priced : ℤ → Option Arc → Pot
@@ -41,3 +45,12 @@ plan_arcs i = record {
   start = i.storage.start;
   end = i.storage.end;
 }
+
+-- nothing where there is no way from this level, or the first of the cheapest
+abbrev pub IsFoundWay : Arcs → ℕ → Option (Vec ℕ Global) → Type 0
+IsFoundWay arcs start found =
+    MatchOption found ((way : List ℕ) → way_cost arcs 0 start way ≡ NoWay) (λ way. IsFirstCheapest arcs 0 start way.items)
+
+-- nothing where no schedule is feasible, or the first of the least
+abbrev pub IsFoundLeast : Inputs → Option (Vec ℕ Global) → Type 0
+IsFoundLeast i found = MatchOption found ((schedule : List ℕ) → IsFeasible i schedule → ⊥) (λ schedule. IsFirstLeast i schedule.items)

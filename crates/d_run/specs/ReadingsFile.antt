@@ -18,6 +18,10 @@ pub record IsReadingRow (row : List (List ℕ)) (year : ℤ) (number t : ℕ) (n
   pub start_is : IsStartText start year number 60 t
   pub reading : IsReading value net
 
+-- the row is none of hour t
+abbrev pub IsNoReadingRow : List (List ℕ) → ℤ → ℕ → ℕ → Type 0
+IsNoReadingRow row year number t = (net : ℤ) → IsReadingRow row year number t net → ⊥
+
 -- the rows behind the header are one for each hour of the month, in order
 pub record AreReadingRows (rows : List (List (List ℕ))) (year : ℤ) (number : ℕ) (net : List ℤ) : Type 0 where
   pub whole : length net ≡ days_in_month year number * 24
@@ -29,6 +33,18 @@ pub record IsReadingsFile (rows : List (List (List ℕ))) (year : ℤ) (number :
   pub header : IsHeader (codes "start" ∷ codes "net_wh" ∷ []) (row_at rows 0)
   pub count : length rows ≡ length net + 1
   pub readings : AreReadingRows rows year number net
+
+-- the rows are no month of hourly readings
+abbrev pub IsNoMonth : List (List (List ℕ)) → Type 0
+IsNoMonth rows = (year : ℤ) (number : ℕ) (net : List ℤ) → IsReadingsFile rows year number net → ⊥
+
+-- where the rows are a month of hourly readings, this holds of the month
+abbrev pub IfMonth : List (List (List ℕ)) → (ℤ → ℕ → Type 0) → Type 0
+IfMonth rows Holds = (year : ℤ) (number : ℕ) (net : List ℤ) → IsReadingsFile rows year number net → Holds year number
+
+-- where the cell is the start of a month's first interval, this holds of the month
+abbrev pub IfFirstStart : List ℕ → (ℤ → ℕ → Type 0) → Type 0
+IfFirstStart cell Holds = (year : ℤ) (number : ℕ) → IsMonth year number → IsStartText cell year number 60 0 → Holds year number
 
 -- a month of hourly readings as plain values
 pub record Hourly : Type 0 where

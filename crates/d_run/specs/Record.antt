@@ -34,7 +34,15 @@ abbrev pub IsOnlyPeriod : List (List ℕ) → List (List ℕ) → ℤ → ℕ �
 IsOnlyPeriod weekday weekend year number period =
     (day hour : ℕ) → IsDayOf year number day → hour < 24 → period_of weekday weekend year number day hour ≡ period
 
--- a period in which all energy has one price, and nothing is paid for energy sent out
+-- each hour of the day is in this period
+abbrev pub IsInPeriod : List (List ℕ) → List (List ℕ) → ℤ → ℕ → ℕ → ℕ → Type 0
+IsInPeriod weekday weekend year number day period = (hour : ℕ) → hour < 24 → period_of weekday weekend year number day hour ≡ period
+
+-- each hour of the month is in the period of its first hour
+abbrev pub HasOnePeriod : List (List ℕ) → List (List ℕ) → ℤ → ℕ → Type 0
+HasOnePeriod weekday weekend year number = IsOnlyPeriod weekday weekend year number (period_of weekday weekend year number 1 0)
+
+-- a period in which all energy has one price, and nothing is paid for export
 abbrev pub flat_period : ℤ → Period
 flat_period price = record { tiers = open_tier price ∷ []; sell = pos 0 }
 
@@ -47,10 +55,14 @@ abbrev pub HasFreeHours : Terms → ℤ → ℕ → ℕ → Type 0
 HasFreeHours terms year number day =
     (hour : ℕ) → hour < 24 → ForSome (tiers_at terms.demand (period_of terms.demand_weekday terms.demand_weekend year number day hour)) IsFree
 
+-- in each hour of the month the tiers of the demand period, where it has some, are free
+abbrev pub HasFreeDays : Terms → ℤ → ℕ → Type 0
+HasFreeDays terms year number = (day : ℕ) → IsDayOf year number day → HasFreeHours terms year number day
+
 -- nothing but energy is billed for the month: no demand period that occurs in it has a price, nor has its flat demand period, there is no
 -- fixed charge, and no minimum
 pub record IsEnergyAlone (terms : Terms) (year : ℤ) (number : ℕ) : Type 0 where
-  pub demand : (day : ℕ) → IsDayOf year number day → HasFreeHours terms year number day
+  pub demand : HasFreeDays terms year number
   pub flat : ForSome (tiers_at terms.flat (slice_index terms.flat_months (number - 1))) IsFree
   pub fixed : terms.fixed.amount ≡ pos 0
   pub minimum : terms.minimum ≡ None

@@ -23,5 +23,5 @@ column_text header column = if nat_lt column (length header) then shown (cell_in
 
 -- the line of a record's refusal: its number and name, its column, its detail, and the cell of the first data row where that isn't empty
 abbrev pub record_text : List (List (List ℕ)) → Refused → List ℕ
-record_text rows fault = line (codes "refused record " ++ (decimal fault.number ++ 32 ∷ (refusal_name fault.number ++ 32 ∷ (column_text (row_at rows 0) fault.column
-    ++ 32 ∷ (decimal fault.detail ++ behind_blank (cell_in (row_at rows 1) fault.column))))))
+record_text rows fault = line (codes "refused record " ++ (decimal fault.number ++ 32 ∷ (refusal_name fault.number
+    ++ 32 ∷ (column_text (row_at rows 0) fault.column ++ 32 ∷ (decimal fault.detail ++ behind_blank (cell_in (row_at rows 1) fault.column))))))

@@ -21,7 +21,8 @@ start_text i t = date_text i.year i.number (start_day i.minutes t) ++ 84 ∷ tim
 
 -- what an interval does: its start, the mode's name, the level after it and what flows through the meter in Wh
 abbrev pub mode_line : Inputs → List ℕ → ℕ → Mode → List ℕ
-mode_line i s t mode = line (start_text i t ++ 32 ∷ (mode.name ++ 32 ∷ (signed_decimal (level_at i s (t + 1)) ++ 32 ∷ signed_decimal (flow_of i t mode))))
+mode_line i s t mode =
+    line (start_text i t ++ 32 ∷ (mode.name ++ 32 ∷ (signed_decimal (level_at i s (t + 1)) ++ 32 ∷ signed_decimal (flow_of i t mode))))
 
 -- the line of interval t
 abbrev pub schedule_line : Inputs → List ℕ → ℕ → List ℕ
@@ -31,6 +32,10 @@ schedule_line i s t = unwrap_or (option_map (mode_line i s t) (slice_get i.stora
 unfoldable pub schedule_lines : Inputs → List ℕ → ℕ → List ℕ
 schedule_lines i s zero = []
 schedule_lines i s (suc n) = schedule_lines i s n ++ schedule_line i s n
+
+-- the lines of all intervals
+abbrev pub all_lines : Inputs → List ℕ → List ℕ
+all_lines i s = schedule_lines i s (length i.net)
 
 -- the lines that say what is answered: the command, the record's label, the month and the length of an interval
 abbrev pub title_lines : List ℕ → Inputs → List ℕ → List ℕ
@@ -43,7 +48,7 @@ bill_line bill = line (codes "bill " ++ money_text bill)
 
 -- the text of a least plan
 abbrev pub plan_text : Inputs → List ℕ → List ℕ → List ℕ
-plan_text i label s = title_lines (codes "plan") i label ++ (line (codes "verdict least") ++ (bill_line (bill_of i s) ++ schedule_lines i s (length i.net)))
+plan_text i label s = title_lines (codes "plan") i label ++ (line (codes "verdict least") ++ (bill_line (bill_of i s) ++ all_lines i s))
 
 -- the text of a bill
 abbrev pub bill_text : Inputs → List ℕ → ℤ → List ℕ

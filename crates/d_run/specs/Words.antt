@@ -32,7 +32,8 @@ options_of (schedule_bill battery schedule) = codes "--battery" ∷ battery ∷ 
 
 -- the words of a request without its rule
 abbrev pub front_of : Asked → List (List ℕ)
-front_of a = command_of a.wanted ∷ codes "--records" ∷ a.records ∷ codes "--label" ∷ a.label ∷ codes "--readings" ∷ a.readings ∷ options_of a.wanted
+front_of a =
+    command_of a.wanted ∷ codes "--records" ∷ a.records ∷ codes "--label" ∷ a.label ∷ codes "--readings" ∷ a.readings ∷ options_of a.wanted
 
 -- the words that choose a rule; none where it is the record's own
 abbrev pub rule_words : RuleChoice → List (List ℕ)

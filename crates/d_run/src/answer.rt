@@ -1,15 +1,13 @@
 //! The top call: from the words to the printed plan or bill.
 
-ghost use Rattle.std.specs.Prelude.{◌≡◌, ℕ, ◌≤◌, ◌^◌, length, map, string_bytes, IfOk, IsErrOf};
+ghost use Rattle.std.specs.Prelude.{◌≡◌, ℕ, ◌≤◌, length, map, string_bytes, IfOk};
 ghost use Rattle.d_desk.specs.Cause.{Rose, HasCause};
-ghost use Rattle.d_desk.specs.Scene.{Files};
 ghost use Rattle.d_model.specs.Inputs.{IsInRange};
-ghost use Rattle.d_model.specs.Shown.{inputs_of, plain_of};
-ghost use Rattle.d_tariff.specs.Shown.{terms_of};
-ghost use Rattle.d_run.specs.Asking.{asked_of, wanted_of};
-ghost use Rattle.d_run.specs.Answer.{Answer, IsAnswer, IsAnswerTo, IsWithTerms, IsPriced, IsFor, IsPlanned, IsBilled, IsMeteredBill, ReadsBattery, ReadsSchedule, refused};
+ghost use Rattle.d_model.specs.Shown.{inputs_of};
+ghost use Rattle.d_run.specs.Answer.{IsAnswer, refused, longest_record};
 ghost use Rattle.d_run.specs.Runs.{Runs, status_of};
-ghost use Rattle.d_run.specs.Replies.{IsStage, Gives, EndsBy, AreWithin, IsTooLong, RecordStage, ReadingsStage, BatteryStage, ScheduleStage, Prepares, Replies, hourly_of, inputs_with};
+ghost use Rattle.d_run.specs.Replies.{EndsBy, LoadStage, RecordStage, ReadingsStage, BatteryStage, ScheduleStage, Replies};
+ghost use Rattle.d_run.specs.Prepared.{IsCaused, Prepares, IsRequested, IsWithTariff, IsWithMeter, IsWithPrice, Plans, Bills, BillsWith, BillsSchedule};
 
 use crate::battery::read_battery;
 use crate::bill::{metered_bill, schedule_bill};
@@ -82,9 +80,8 @@ fn reply<D: Desk>(alloc: Global, words: &[String], desk: &mut D) -> Result<Verdi
 
 /// Prepares the answer to a list of words. Nothing is printed yet.
 fn prepare<D: Desk>(alloc: Global, words: &[String], desk: &mut D) -> Result<Reply, Fault>
-    ensures told { D.tells → Prepares (IsAnswer (map string_bytes words.now) (D.scene desk.old).files) (D.scene desk.old) (D.scene desk.new) result }
-    ensures later { D.faults desk.old ≤ D.faults desk.new }
-    ensures failed { IsErrOf result Fault.Failed → Rose (D.faults desk.old) (D.faults desk.new) }
+    ensures told { D.tells → Prepares (IsAnswer (map string_bytes words.now)) (D.scene desk.old) (D.scene desk.new) result }
+    ensures cause { IsCaused (D.faults desk.old) (D.faults desk.new) result }
 {
     match read_words(words) {
         Some(request) => answer_request(alloc, desk, &request),
@@ -98,9 +95,8 @@ fn answer_request<D: Desk>(
     desk: &mut D,
     request: &Request<'_>,
 ) -> Result<Reply, Fault>
-    ensures told { D.tells → Prepares (IsAnswerTo (D.scene desk.old).files (asked_of request.now)) (D.scene desk.old) (D.scene desk.new) result }
-    ensures later { D.faults desk.old ≤ D.faults desk.new }
-    ensures failed { IsErrOf result Fault.Failed → Rose (D.faults desk.old) (D.faults desk.new) }
+    ensures told { D.tells → Prepares (IsRequested request.now) (D.scene desk.old) (D.scene desk.new) result }
+    ensures cause { IsCaused (D.faults desk.old) (D.faults desk.new) result }
 {
     let tariff = load_record(alloc, desk, request.records, request.label, request.rule)?;
     answer_with_tariff(alloc, desk, request, &tariff)
@@ -113,9 +109,8 @@ fn answer_with_tariff<D: Desk>(
     request: &Request<'_>,
     tariff: &Tariff,
 ) -> Result<Reply, Fault>
-    ensures told { D.tells → Prepares (IsWithTerms (D.scene desk.old).files (asked_of request.now) (terms_of tariff.now)) (D.scene desk.old) (D.scene desk.new) result }
-    ensures later { D.faults desk.old ≤ D.faults desk.new }
-    ensures failed { IsErrOf result Fault.Failed → Rose (D.faults desk.old) (D.faults desk.new) }
+    ensures told { D.tells → Prepares (IsWithTariff request.now tariff.now) (D.scene desk.old) (D.scene desk.new) result }
+    ensures cause { IsCaused (D.faults desk.old) (D.faults desk.new) result }
 {
     let meter = load_readings(alloc, desk, request.readings)?;
     answer_priced(alloc, desk, request, tariff, &meter)
@@ -130,9 +125,8 @@ fn answer_priced<D: Desk>(
     meter: &Meter,
 ) -> Result<Reply, Fault>
     requires { meter.now.minutes ≡ 60 }
-    ensures told { D.tells → Prepares (IsPriced (terms_of tariff.now) (hourly_of meter.now) (λ price. IsFor (D.scene desk.old).files request.now.label.now price (hourly_of meter.now) (wanted_of request.now.task))) (D.scene desk.old) (D.scene desk.new) result }
-    ensures later { D.faults desk.old ≤ D.faults desk.new }
-    ensures failed { IsErrOf result Fault.Failed → Rose (D.faults desk.old) (D.faults desk.new) }
+    ensures told { D.tells → Prepares (IsWithMeter request.now tariff.now meter.now) (D.scene desk.old) (D.scene desk.new) result }
+    ensures cause { IsCaused (D.faults desk.old) (D.faults desk.new) result }
 {
     match one_price(tariff, meter.month) {
         Some(price) => answer_task(alloc, desk, request, price, meter),
@@ -149,9 +143,8 @@ fn answer_task<D: Desk>(
     meter: &Meter,
 ) -> Result<Reply, Fault>
     requires { meter.now.minutes ≡ 60 }
-    ensures told { D.tells → Prepares (IsFor (D.scene desk.old).files request.now.label.now price (hourly_of meter.now) (wanted_of request.now.task)) (D.scene desk.old) (D.scene desk.new) result }
-    ensures later { D.faults desk.old ≤ D.faults desk.new }
-    ensures failed { IsErrOf result Fault.Failed → Rose (D.faults desk.old) (D.faults desk.new) }
+    ensures told { D.tells → Prepares (IsWithPrice request.now meter.now price) (D.scene desk.old) (D.scene desk.new) result }
+    ensures cause { IsCaused (D.faults desk.old) (D.faults desk.new) result }
 {
     let label = request.label;
     match request.task {
@@ -172,9 +165,8 @@ fn answer_plan<D: Desk>(
     price: Rate,
     meter: &Meter,
 ) -> Result<Reply, Fault>
-    ensures told { D.tells → Prepares (ReadsBattery (D.scene desk.old).files battery.now (λ storage. IsPlanned (inputs_with price meter.now storage) label.now)) (D.scene desk.old) (D.scene desk.new) result }
-    ensures later { D.faults desk.old ≤ D.faults desk.new }
-    ensures failed { IsErrOf result Fault.Failed → Rose (D.faults desk.old) (D.faults desk.new) }
+    ensures told { D.tells → Prepares (Plans battery.now label.now price meter.now) (D.scene desk.old) (D.scene desk.new) result }
+    ensures cause { IsCaused (D.faults desk.old) (D.faults desk.new) result }
 {
     let battery = load_battery(alloc, desk, battery)?;
     Ok(plan(alloc, label, price, meter, &battery)?)
@@ -190,9 +182,8 @@ fn answer_bill<D: Desk>(
     price: Rate,
     meter: &Meter,
 ) -> Result<Reply, Fault>
-    ensures told { D.tells → Prepares (ReadsBattery (D.scene desk.old).files battery.now (λ storage. ReadsSchedule (D.scene desk.old).files schedule.now (inputs_with price meter.now storage) (IsBilled (inputs_with price meter.now storage) label.now))) (D.scene desk.old) (D.scene desk.new) result }
-    ensures later { D.faults desk.old ≤ D.faults desk.new }
-    ensures failed { IsErrOf result Fault.Failed → Rose (D.faults desk.old) (D.faults desk.new) }
+    ensures told { D.tells → Prepares (Bills battery.now schedule.now label.now price meter.now) (D.scene desk.old) (D.scene desk.new) result }
+    ensures cause { IsCaused (D.faults desk.old) (D.faults desk.new) result }
 {
     let battery = load_battery(alloc, desk, battery)?;
     bill_with_battery(alloc, desk, label, schedule, price, meter, &battery)
@@ -208,9 +199,8 @@ fn bill_with_battery<D: Desk>(
     meter: &Meter,
     battery: &Battery,
 ) -> Result<Reply, Fault>
-    ensures told { D.tells → Prepares (ReadsSchedule (D.scene desk.old).files schedule.now (plain_of price meter.now battery.now) (IsBilled (plain_of price meter.now battery.now) label.now)) (D.scene desk.old) (D.scene desk.new) result }
-    ensures later { D.faults desk.old ≤ D.faults desk.new }
-    ensures failed { IsErrOf result Fault.Failed → Rose (D.faults desk.old) (D.faults desk.new) }
+    ensures told { D.tells → Prepares (BillsWith schedule.now label.now price meter.now battery.now) (D.scene desk.old) (D.scene desk.new) result }
+    ensures cause { IsCaused (D.faults desk.old) (D.faults desk.new) result }
 {
     let problem = Problem::plain(alloc, price, meter, battery)?;
     bill_of_problem(alloc, desk, label, schedule, &problem)
@@ -225,9 +215,8 @@ fn bill_of_problem<D: Desk>(
     problem: &Problem,
 ) -> Result<Reply, Fault>
     requires { IsInRange (inputs_of problem.now) }
-    ensures told { D.tells → Prepares (ReadsSchedule (D.scene desk.old).files schedule.now (inputs_of problem.now) (IsBilled (inputs_of problem.now) label.now)) (D.scene desk.old) (D.scene desk.new) result }
-    ensures later { D.faults desk.old ≤ D.faults desk.new }
-    ensures failed { IsErrOf result Fault.Failed → Rose (D.faults desk.old) (D.faults desk.new) }
+    ensures told { D.tells → Prepares (BillsSchedule schedule.now label.now (inputs_of problem.now)) (D.scene desk.old) (D.scene desk.new) result }
+    ensures cause { IsCaused (D.faults desk.old) (D.faults desk.new) result }
 {
     let modes = load_schedule(alloc, desk, schedule, problem)?;
     Ok(schedule_bill(alloc, label, problem, modes.as_slice())?)
@@ -241,9 +230,8 @@ fn load_record<D: Desk>(
     label: &str,
     rule: RuleChoice,
 ) -> Result<Tariff, Fault>
-    ensures told { D.tells → RecordStage (D.scene desk.old).files name.now label.now rule (D.scene desk.old) (D.scene desk.new) result }
-    ensures later { D.faults desk.old ≤ D.faults desk.new }
-    ensures failed { IsErrOf result Fault.Failed → Rose (D.faults desk.old) (D.faults desk.new) }
+    ensures told { D.tells → RecordStage name.now label.now rule (D.scene desk.old) (D.scene desk.new) result }
+    ensures cause { IsCaused (D.faults desk.old) (D.faults desk.new) result }
 {
     let bytes = load(alloc, desk, name, LONGEST_RECORD, Refusal::LongRecord)?;
     read_record(alloc, bytes.as_slice(), label, rule)
@@ -252,9 +240,8 @@ fn load_record<D: Desk>(
 /// The month of readings in the file.
 fn load_readings<D: Desk>(alloc: Global, desk: &mut D, name: &str) -> Result<Meter, Fault>
     ensures minutes { IfOk result (λ meter. meter.minutes ≡ 60) }
-    ensures told { D.tells → ReadingsStage (D.scene desk.old).files name.now (D.scene desk.old) (D.scene desk.new) result }
-    ensures later { D.faults desk.old ≤ D.faults desk.new }
-    ensures failed { IsErrOf result Fault.Failed → Rose (D.faults desk.old) (D.faults desk.new) }
+    ensures told { D.tells → ReadingsStage name.now (D.scene desk.old) (D.scene desk.new) result }
+    ensures cause { IsCaused (D.faults desk.old) (D.faults desk.new) result }
 {
     let bytes = load(alloc, desk, name, LONGEST_FILE, Refusal::LongReadings)?;
     match read_readings(alloc, bytes.as_slice()) {
@@ -265,9 +252,8 @@ fn load_readings<D: Desk>(alloc: Global, desk: &mut D, name: &str) -> Result<Met
 
 /// The battery in the file.
 fn load_battery<D: Desk>(alloc: Global, desk: &mut D, name: &str) -> Result<Battery, Fault>
-    ensures told { D.tells → BatteryStage (D.scene desk.old).files name.now (D.scene desk.old) (D.scene desk.new) result }
-    ensures later { D.faults desk.old ≤ D.faults desk.new }
-    ensures failed { IsErrOf result Fault.Failed → Rose (D.faults desk.old) (D.faults desk.new) }
+    ensures told { D.tells → BatteryStage name.now (D.scene desk.old) (D.scene desk.new) result }
+    ensures cause { IsCaused (D.faults desk.old) (D.faults desk.new) result }
 {
     let bytes = load(alloc, desk, name, LONGEST_FILE, Refusal::LongBattery)?;
     match read_battery(alloc, bytes.as_slice()) {
@@ -284,9 +270,8 @@ fn load_schedule<D: Desk>(
     problem: &Problem,
 ) -> Result<Vec<u8>, Fault>
     ensures long { IfOk result (λ modes. length modes.items ≡ length (inputs_of problem.now).net) }
-    ensures told { D.tells → ScheduleStage (D.scene desk.old).files name.now (inputs_of problem.now) (D.scene desk.old) (D.scene desk.new) result }
-    ensures later { D.faults desk.old ≤ D.faults desk.new }
-    ensures failed { IsErrOf result Fault.Failed → Rose (D.faults desk.old) (D.faults desk.new) }
+    ensures told { D.tells → ScheduleStage name.now (inputs_of problem.now) (D.scene desk.old) (D.scene desk.new) result }
+    ensures cause { IsCaused (D.faults desk.old) (D.faults desk.new) result }
 {
     let bytes = load(alloc, desk, name, LONGEST_FILE, Refusal::LongSchedule)?;
     read_modes(alloc, bytes.as_slice(), problem)
@@ -300,10 +285,9 @@ fn load<D: Desk>(
     limit: u64,
     too_long: Refusal,
 ) -> Result<Vec<u8>, Fault>
-    requires { limit ≤ 2 ^ 30 }
-    ensures told { D.tells → IsStage name.now (AreWithin (D.scene desk.old).files name.now limit) (IsTooLong (D.scene desk.old).files name.now limit too_long) (D.scene desk.old) (D.scene desk.new) result }
-    ensures later { D.faults desk.old ≤ D.faults desk.new }
-    ensures failed { IsErrOf result Fault.Failed → Rose (D.faults desk.old) (D.faults desk.new) }
+    requires { limit ≤ longest_record }
+    ensures told { D.tells → LoadStage name.now limit too_long (D.scene desk.old) (D.scene desk.new) result }
+    ensures cause { IsCaused (D.faults desk.old) (D.faults desk.new) result }
 {
     match load_file(alloc, desk, name, limit) {
         Ok(bytes) => Ok(bytes),

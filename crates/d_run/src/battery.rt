@@ -6,7 +6,7 @@ ghost use Rattle.d_model.specs.Shown.{storage_of};
 ghost use Rattle.d_run.specs.declared.entry.Entry.{Entry};
 ghost use Rattle.d_table.specs.Table.{rows_of, row_at};
 ghost use Rattle.d_run.specs.BatteryFile.{IsBatteryFile};
-ghost use Rattle.d_run.specs.Draft.{AreEntries, IsUsable, IsDraftOf};
+ghost use Rattle.d_run.specs.Draft.{AreEntries, HasNoUsableEntries, IsDraftOf};
 
 use crate::draft::Draft;
 use crate::entry::read_entry;
@@ -43,7 +43,7 @@ fn battery_in(alloc: Global, table: &Table) -> Result<Battery, ReadFault>
 fn read_draft(alloc: Global, table: &Table) -> Result<Draft, ReadFault>
     requires some { 0 < length table.now }
     requires columns { length (row_at table.now 0) ≡ 6 }
-    ensures refused { IsErrOf result ReadFault.Refused → (entries : List Entry) → AreEntries table.now (length table.now) entries → IsUsable entries → ⊥ }
+    ensures refused { IsErrOf result ReadFault.Refused → HasNoUsableEntries table.now }
     ensures draft { IfOk result (λ draft. (entries : List Entry) × AreEntries table.now (length table.now) entries × IsDraftOf entries draft) }
 {
     let mut draft = Draft::new(alloc);

@@ -3,17 +3,17 @@
 ghost use Rattle.std.specs.Prelude.{◌≡◌, ℕ, length, IfOk};
 ghost use Rattle.d_model.specs.Shown.{inputs_of, storage_of};
 ghost use Rattle.d_run.specs.Answer.{IsBilled, IsMeteredBill, no_storage};
-ghost use Rattle.d_run.specs.Replies.{IsReply, inputs_with};
+ghost use Rattle.d_run.specs.Replies.{IsReply, Shows, inputs_with};
 ghost use Rattle.d_run.specs.Text.{bill_text, break_text};
 
-use crate::lines::{put_bill, put_line, put_title};
+use crate::lines::{line_text, put_bill, put_title};
 use crate::reply::Reply;
 use crate::verdict::Verdict;
 use d_model::{Battery, Meter, Mode, ModeList, Name, Problem, Tally};
 use d_num::{Money, NoMemory, Rate, Wh};
 use std::alloc::Global;
 
-// What a grid may take or send in an interval where nothing limits it, in Wh.
+// The greatest import and export of an interval where nothing limits them, in Wh.
 const WIDE_LIMIT: i64 = 10_000_000_000;
 
 /// The bill of the readings alone, without a battery.
@@ -74,7 +74,7 @@ pub fn schedule_bill(
 
 /// The reply that shows a bill.
 fn bill_reply(alloc: Global, label: &str, problem: &Problem, bill: Money) -> Result<Reply, NoMemory>
-    ensures { IfOk result (λ reply. (reply.verdict ≡ Verdict.Done) × (reply.text.items ≡ bill_text (inputs_of problem.now) label.now bill)) }
+    ensures { IfOk result (Shows Verdict.Done (bill_text (inputs_of problem.now) label.now bill)) }
 {
     let mut text = Vec::new(alloc);
     put_title(alloc, &mut text, "bill", label, problem)?;
@@ -87,11 +87,10 @@ fn bill_reply(alloc: Global, label: &str, problem: &Problem, bill: Money) -> Res
 
 /// The reply that names the first interval in which a schedule breaks a rule.
 fn break_reply(alloc: Global, interval: u32) -> Result<Reply, NoMemory>
-    ensures { IfOk result (λ reply. (reply.verdict ≡ Verdict.NoSchedule) × (reply.text.items ≡ break_text interval)) }
+    ensures { IfOk result (Shows Verdict.NoSchedule (break_text interval)) }
 {
     let number = format!(in alloc; "{interval}")?;
-    let mut text = Vec::new(alloc);
-    put_line(&mut text, "not feasible at interval ", number.as_str())?;
+    let text = line_text(alloc, "not feasible at interval ", number.as_str())?;
     Ok(Reply {
         verdict: Verdict::NoSchedule,
         text,

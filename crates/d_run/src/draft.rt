@@ -1,14 +1,13 @@
 //! A battery in the making, from the rows of its file.
 
-ghost use Rattle.std.specs.Prelude.{◌≡◌, ◌≢◌, ◌↔◌, ℕ, ◌^◌, ◌<◌, ◌≤◌, ℤ, pos, List, [], ◌∷◌, ◌++◌, length, Some, None, unwrap_or, slice_get, IsTrue, IfNone, IfSome, OnOk, IsErrOf, if◌then◌else◌};
+ghost use Rattle.std.specs.Prelude.{◌≡◌, ◌↔◌, ℕ, ◌^◌, ◌<◌, pos, [], Some, None, unwrap_or, slice_get, IsTrue, IfNone, IfSome, OnOk, IsErrOf};
 ghost use Rattle.d_num.specs.Amount.{IsUpTo};
 ghost use Rattle.d_model.specs.declared.mode.Mode.{Mode};
-ghost use Rattle.d_model.specs.Storage.{Storage, IsMode};
+ghost use Rattle.d_model.specs.Storage.{Storage};
 ghost use Rattle.d_model.specs.Shown.{storage_of};
 ghost use Rattle.d_run.specs.declared.entry.Entry.{Entry};
 ghost use Rattle.d_run.specs.declared.entry.Setting.{Setting};
-ghost use Rattle.d_run.specs.BatteryFile.{is_same_setting};
-ghost use Rattle.d_run.specs.Draft.{IsUsable, IsLimited, IsSound, IsDraftOf, MakesStorage, value_in};
+ghost use Rattle.d_run.specs.Draft.{IsSound, IsDraftOf, MakesStorage, Takes, CantTake, SetsValue, value_in};
 
 use crate::entry::{Entry, Setting};
 use crate::fault::ReadFault;
@@ -51,8 +50,8 @@ impl Draft {
 
     /// Adds what a row says, or is refused where the setting or the mode's name was there before, or it is the 65th mode.
     pub fn take(&mut self, entry: Entry) -> Result<(), ReadFault>
-        ensures ok { OnOk result ((entries : List Entry) → IsDraftOf entries self.old → IsLimited entry → IsDraftOf (entries ++ entry ∷ []) self.new) }
-        ensures refused { IsErrOf result ReadFault.Refused → (entries : List Entry) → IsDraftOf entries self.old → IsUsable (entries ++ entry ∷ []) → ⊥ }
+        ensures ok { OnOk result (Takes entry self.old self.new) }
+        ensures refused { IsErrOf result ReadFault.Refused → CantTake entry self.old }
     {
         match entry {
             Entry::Sets(setting, value) => self.set(setting, value),
@@ -62,8 +61,8 @@ impl Draft {
 
     /// Sets a number that wasn't set before.
     fn set(&mut self, setting: Setting, value: i64) -> Result<(), ReadFault>
-        ensures ok { OnOk result ((entries : List Entry) → IsDraftOf entries self.old → IsLimited (Entry.Sets setting value) → IsDraftOf (entries ++ Entry.Sets setting value ∷ []) self.new) }
-        ensures refused { IsErrOf result ReadFault.Refused → (entries : List Entry) → IsDraftOf entries self.old → IsUsable (entries ++ Entry.Sets setting value ∷ []) → ⊥ }
+        ensures ok { OnOk result (Takes (Entry.Sets setting value) self.old self.new) }
+        ensures refused { IsErrOf result ReadFault.Refused → CantTake (Entry.Sets setting value) self.old }
     {
         if self.get(setting).is_some() {
             return Err(ReadFault::Refused);
@@ -88,7 +87,7 @@ impl Draft {
 
     /// Puts a number in place.
     fn put(&mut self, setting: Setting, value: i64)
-        ensures values { (other : Setting) → value_in self.new other ≡ (if is_same_setting other setting then Some value else value_in self.old other) }
+        ensures values { SetsValue setting value self.old self.new }
         ensures modes { self.new.modes ≡ self.old.modes }
     {
         match setting {
@@ -103,8 +102,8 @@ impl Draft {
 
     /// Adds a mode whose name wasn't there before.
     fn add(&mut self, mode: Mode) -> Result<(), ReadFault>
-        ensures ok { OnOk result ((entries : List Entry) → IsDraftOf entries self.old → IsLimited (Entry.Has mode) → IsDraftOf (entries ++ Entry.Has mode ∷ []) self.new) }
-        ensures refused { IsErrOf result ReadFault.Refused → (entries : List Entry) → IsDraftOf entries self.old → IsUsable (entries ++ Entry.Has mode ∷ []) → ⊥ }
+        ensures ok { OnOk result (Takes (Entry.Has mode) self.old self.new) }
+        ensures refused { IsErrOf result ReadFault.Refused → CantTake (Entry.Has mode) self.old }
     {
         if self.modes.len() >= MOST_MODES || has_name(self.modes.as_slice(), mode.name.bytes()) {
             return Err(ReadFault::Refused);

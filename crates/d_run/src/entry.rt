@@ -13,20 +13,26 @@ use d_num::Wh;
 use d_table::Table;
 
 /// A number of the battery that a row may set.
-#[derive(Clone, Copy, Debug, PartialEq, Eq)]
+#[derive(Clone, Copy)]
 pub enum Setting {
+    /// The greatest level, from 0 to 255.
     Capacity,
+    /// The least level, from 0 to 255.
     Floor,
+    /// The level at the start of the month, from 0 to 255.
     Start,
+    /// The least level at the end of the month, from 0 to 255.
     End,
+    /// The greatest import of an interval, from 0 to 10^10 Wh.
     MaxImport,
+    /// The greatest export of an interval, from 0 to 10^10 Wh.
     MaxExport,
 }
 
 /// A row of a battery file.
 #[derive(Drop)]
 pub enum Entry {
-    /// It sets a number.
+    /// It sets a number: a level, or energy in Wh.
     Sets(Setting, i64),
     /// It has a mode.
     Has(Mode),

@@ -1,42 +1,49 @@
 //! Why a request is answered with a refusal or not at all.
 
-ghost use Rattle.std.specs.Prelude.{◌≡◌, ◌++◌, IfOk, string_bytes};
+ghost use Rattle.std.specs.Prelude.{◌≡◌, IfOk, string_bytes};
 ghost use Rattle.d_run.specs.Answer.{refused, refusal_text, refusal_verdict};
 ghost use Rattle.d_run.specs.Replies.{EndsBy};
 ghost use Rattle.d_run.specs.Text.{schedule_fault_text};
 
-use crate::lines::put_line;
+use crate::lines::line_text;
 use crate::reply::Reply;
 use crate::verdict::Verdict;
 use d_model::ScheduleFault;
 use d_num::NoMemory;
 use d_table::TableFault;
 use std::alloc::{AllocError, AllocFailed, Global};
-use thiserror::Error;
 
 /// What a reader of one file answers in place of its value.
-#[derive(Clone, Copy, Debug, PartialEq, Eq, Error)]
+#[derive(Clone, Copy)]
 pub enum ReadFault {
     /// The bytes aren't of the reader's form.
-    #[error("refused")]
     Refused,
     /// Memory was wanted and there was none.
-    #[error("out of memory")]
     Memory,
 }
 
 /// What is refused, in the order in which it is looked at. A record's own refusals are beside these.
-#[derive(Clone, Copy, Debug, PartialEq, Eq)]
+#[derive(Clone, Copy)]
 pub enum Refusal {
+    /// The words are no request.
     Words,
+    /// The record file is too long.
     LongRecord,
+    /// This row of the record file, from 0 behind the header, has another length than the header.
     RecordShape(u64),
+    /// The readings file is too long.
     LongReadings,
+    /// The readings file is no month of hourly readings.
     Readings,
+    /// By the record the month is billed by more than one price of energy.
     NotYet,
+    /// The battery file is too long.
     LongBattery,
+    /// The battery file is no battery.
     Battery,
+    /// The schedule file is too long.
     LongSchedule,
+    /// The schedule file is no schedule of the problem.
     Schedule(ScheduleFault),
 }
 
@@ -45,26 +52,18 @@ impl Refusal {
     fn text(self, alloc: Global) -> Result<Vec<u8>, NoMemory>
         ensures { IfOk result (λ text. text.items ≡ refusal_text self) }
     {
-        let mut text = Vec::new(alloc);
         match self {
-            Refusal::Words => put_line(&mut text, "refused words 23 NotYet", "")?,
-            Refusal::LongRecord => put_line(&mut text, "refused record 0 TooLong", "")?,
-            Refusal::RecordShape(row) => {
-                let row = format!(in alloc; "{row}")?;
-                put_line(&mut text, "refused record 0 Shape ", row.as_str())?;
-            }
-            Refusal::LongReadings => put_line(&mut text, "refused readings 0 TooLong", "")?,
-            Refusal::Readings => put_line(&mut text, "refused readings 23 NotYet", "")?,
-            Refusal::NotYet => put_line(&mut text, "refused record 23 NotYet none 1", "")?,
-            Refusal::LongBattery => put_line(&mut text, "refused battery 0 TooLong", "")?,
-            Refusal::Battery => put_line(&mut text, "refused battery 23 NotYet", "")?,
-            Refusal::LongSchedule => put_line(&mut text, "refused schedule 0 TooLong", "")?,
-            Refusal::Schedule(fault) => {
-                let fault = schedule_fault_text(alloc, fault)?;
-                put_line(&mut text, "refused schedule ", fault.as_str())?;
-            }
+            Refusal::Words => line_text(alloc, "refused words 23 NotYet", ""),
+            Refusal::LongRecord => line_text(alloc, "refused record 0 TooLong", ""),
+            Refusal::RecordShape(row) => shape_text(alloc, row),
+            Refusal::LongReadings => line_text(alloc, "refused readings 0 TooLong", ""),
+            Refusal::Readings => line_text(alloc, "refused readings 23 NotYet", ""),
+            Refusal::NotYet => line_text(alloc, "refused record 23 NotYet none 1", ""),
+            Refusal::LongBattery => line_text(alloc, "refused battery 0 TooLong", ""),
+            Refusal::Battery => line_text(alloc, "refused battery 23 NotYet", ""),
+            Refusal::LongSchedule => line_text(alloc, "refused schedule 0 TooLong", ""),
+            Refusal::Schedule(fault) => schedule_text(alloc, fault),
         }
-        Ok(text)
     }
 
     /// The verdict of a run that it ends.
@@ -96,6 +95,22 @@ impl Refusal {
     }
 }
 
+/// The line of a record file that is refused by its first row of another length, which counts from 0 behind the header.
+fn shape_text(alloc: Global, row: u64) -> Result<Vec<u8>, NoMemory>
+    ensures { IfOk result (λ text. text.items ≡ refusal_text (Refusal.RecordShape row)) }
+{
+    let row = format!(in alloc; "{row}")?;
+    line_text(alloc, "refused record 0 Shape ", row.as_str())
+}
+
+/// The line of a schedule file that is refused so.
+fn schedule_text(alloc: Global, fault: ScheduleFault) -> Result<Vec<u8>, NoMemory>
+    ensures { IfOk result (λ text. text.items ≡ refusal_text (Refusal.Schedule fault)) }
+{
+    let fault = schedule_fault_text(alloc, fault)?;
+    line_text(alloc, "refused schedule ", fault.as_str())
+}
+
 /// The number and the name of a schedule file's fault, with the numbers that it names.
 fn schedule_fault_text(alloc: Global, fault: ScheduleFault) -> Result<String, AllocError>
     ensures { IfOk result (λ text. string_bytes text ≡ schedule_fault_text fault) }
@@ -109,16 +124,13 @@ fn schedule_fault_text(alloc: Global, fault: ScheduleFault) -> Result<String, Al
 }
 
 /// Why the program stops before it has an answer of its own.
-#[derive(Debug, Drop, Error)]
+#[derive(Drop)]
 pub enum Fault {
     /// The words or a file are refused, and the reply says so.
-    #[error("refused")]
     Refused(Reply),
     /// A call on the desk failed.
-    #[error("the desk failed")]
     Failed,
     /// Memory was wanted and there was none.
-    #[error("out of memory")]
     Memory,
 }
 

@@ -1,13 +1,9 @@
 //! The first least schedule of a problem, found over the ways of its battery's modes.
 
-ghost use Rattle.std.specs.Prelude.{◌≡◌, ◌<◌, ℕ, List, length, map, MatchOption, IfOk};
+ghost use Rattle.std.specs.Prelude.{◌≡◌, ◌<◌, length, map, IfOk};
 ghost use Rattle.d_model.specs.Shown.{inputs_of};
-ghost use Rattle.d_model.specs.Schedules.{IsFeasible};
-ghost use Rattle.d_model.specs.Bills.{IsFirstLeast};
-ghost use Rattle.d_num.specs.declared.pot.Pot.TheVariants.{NoWay};
-ghost use Rattle.d_path.specs.Arcs.{arcs_of, intervals_of, way_cost, IsSound};
-ghost use Rattle.d_path.specs.Cheapest.{IsFirstCheapest};
-ghost use Rattle.d_run.specs.PlanWays.{mode_cost, mode_costs, move_of, plan_arcs};
+ghost use Rattle.d_path.specs.Arcs.{arcs_of, intervals_of, IsSound};
+ghost use Rattle.d_run.specs.PlanWays.{mode_cost, mode_costs, move_of, plan_arcs, IsFoundWay, IsFoundLeast};
 
 use d_model::{Mode, Problem};
 use d_num::{NoMemory, Pot};
@@ -16,7 +12,7 @@ use std::alloc::Global;
 
 /// The first of the least schedules, in the order of lists of mode numbers, or None exactly where no schedule is feasible.
 pub fn least_schedule(alloc: Global, problem: &Problem) -> Result<Option<Vec<u8>>, NoMemory>
-    ensures { IfOk result (λ found. MatchOption found ((s : List ℕ) → IsFeasible (inputs_of problem.now) s → ⊥) (λ schedule. IsFirstLeast (inputs_of problem.now) schedule.items)) }
+    ensures { IfOk result (IsFoundLeast (inputs_of problem.now)) }
 {
     let costs = costs_of(alloc, problem)?;
     let moves = moves_of(alloc, problem.battery().modes.as_slice())?;
@@ -29,7 +25,7 @@ pub fn least_schedule(alloc: Global, problem: &Problem) -> Result<Option<Vec<u8>
 fn first_way(alloc: Global, ways: &Ways, intervals: u32) -> Result<Option<Vec<u8>>, NoMemory>
     requires sound { IsSound (arcs_of ways.now) }
     requires intervals { intervals ≡ intervals_of (arcs_of ways.now) }
-    ensures { IfOk result (λ found. MatchOption found ((s : List ℕ) → way_cost (arcs_of ways.now) 0 ways.now.start s ≡ NoWay) (λ way. IsFirstCheapest (arcs_of ways.now) 0 ways.now.start way.items)) }
+    ensures { IfOk result (IsFoundWay (arcs_of ways.now) ways.now.start) }
 {
     let levels = (ways.capacity - ways.floor) as u16 + 1;
     let mut layers = Layers::make(alloc, intervals + 1, levels)?;

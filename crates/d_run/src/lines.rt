@@ -1,6 +1,6 @@
 //! The lines of which the printed texts are made.
 
-ghost use Rattle.std.specs.Prelude.{◌≡◌, ◌++◌, OnOk};
+ghost use Rattle.std.specs.Prelude.{◌≡◌, ◌++◌, IfOk, OnOk};
 ghost use Rattle.d_model.specs.Shown.{inputs_of};
 ghost use Rattle.d_run.specs.Text.{line, title_lines, bill_line, shown, shown_byte, behind_blank};
 
@@ -21,6 +21,15 @@ pub fn put_line(text: &mut Vec<u8>, word: &str, value: &str) -> Result<(), NoMem
     text.extend_from_slice(value.as_bytes())?;
     text.push(b'\n')?;
     Ok(())
+}
+
+/// A text of this line alone.
+pub fn line_text(alloc: Global, word: &str, value: &str) -> Result<Vec<u8>, NoMemory>
+    ensures { IfOk result (λ text. text.items ≡ line (word.now ++ value.now)) }
+{
+    let mut text = Vec::new(alloc);
+    put_line(&mut text, word, value)?;
+    Ok(text)
 }
 
 /// Adds the lines that say what is answered: the command, the record's label, the month and the length of an interval.

@@ -1,6 +1,6 @@
 //! Numbers as the files write them.
 
-ghost use Rattle.std.specs.Prelude.{◌≡◌, ℕ, ◌^◌, ◌≤◌, ℤ, length, IfNone, IfSome};
+ghost use Rattle.std.specs.Prelude.{◌≡◌, ℕ, ◌≤◌, ℤ, length, IfNone, IfSome};
 ghost use Rattle.std.specs.Str.Parse.{IsNumeral, digits_value};
 ghost use Rattle.d_run.specs.BatteryFile.{IsWhole};
 ghost use Rattle.d_run.specs.ReadingsFile.{IsReading};

@@ -1,20 +1,20 @@
 //! The text of a plan.
 
-ghost use Rattle.std.specs.Prelude.{◌≡◌, pos, ◌+ℤ◌, ◌∷◌, ◌++◌, ◌<◌, length, IfOk, OnOk, string_bytes};
+ghost use Rattle.std.specs.Prelude.{◌≡◌, pos, ◌+ℤ◌, ◌∷◌, ◌++◌, ◌<◌, length, codes, IfOk, OnOk, string_bytes};
 ghost use Rattle.d_model.specs.Shown.{inputs_of, plain_of};
 ghost use Rattle.d_num.specs.Amount.{IsUpTo};
 ghost use Rattle.std.specs.Fmt.{decimal, signed_decimal};
 ghost use Rattle.d_model.specs.Flows.{flow_of};
 ghost use Rattle.d_model.specs.Schedules.{IsFeasible};
 ghost use Rattle.d_model.specs.Bills.{bill_of};
-ghost use Rattle.d_run.specs.Replies.{IsReply};
+ghost use Rattle.d_run.specs.Replies.{IsReply, Shows};
 ghost use Rattle.d_run.specs.Answer.{IsPlanned};
-ghost use Rattle.d_run.specs.Text.{schedule_lines};
+ghost use Rattle.d_run.specs.Text.{all_lines};
 ghost use Rattle.d_run.specs.Text as spec;
 ghost use Rattle.d_run.specs.PlanLines.{level_line};
 
 use crate::least::least_schedule;
-use crate::lines::{put_bill, put_line, put_title};
+use crate::lines::{line_text, put_bill, put_line, put_title};
 use crate::reply::Reply;
 use crate::text::{date_text, time_text};
 use crate::verdict::Verdict;
@@ -36,22 +36,37 @@ pub fn plan(
 {
     let problem = Problem::plain(alloc, price, meter, battery)?;
     match least_schedule(alloc, &problem)? {
-        Some(schedule) => {
-            let text = plan_text(alloc, label, &problem, schedule.as_slice())?;
-            Ok(Reply {
-                verdict: Verdict::Done,
-                text,
-            })
-        }
-        None => {
-            let mut text = Vec::new(alloc);
-            put_line(&mut text, "no schedule", "")?;
-            Ok(Reply {
-                verdict: Verdict::NoSchedule,
-                text,
-            })
-        }
+        Some(schedule) => plan_reply(alloc, label, &problem, schedule.as_slice()),
+        None => no_plan_reply(alloc),
     }
+}
+
+/// The reply that shows a plan by a feasible schedule.
+fn plan_reply(
+    alloc: Global,
+    label: &str,
+    problem: &Problem,
+    schedule: &[u8],
+) -> Result<Reply, NoMemory>
+    requires { IsFeasible (inputs_of problem.now) schedule.now }
+    ensures { IfOk result (Shows Verdict.Done (spec.plan_text (inputs_of problem.now) label.now schedule.now)) }
+{
+    let text = plan_text(alloc, label, problem, schedule)?;
+    Ok(Reply {
+        verdict: Verdict::Done,
+        text,
+    })
+}
+
+/// The reply that says that no schedule is feasible.
+fn no_plan_reply(alloc: Global) -> Result<Reply, NoMemory>
+    ensures { IfOk result (Shows Verdict.NoSchedule (spec.line (codes "no schedule"))) }
+{
+    let text = line_text(alloc, "no schedule", "")?;
+    Ok(Reply {
+        verdict: Verdict::NoSchedule,
+        text,
+    })
 }
 
 /// The text of a plan by a feasible schedule.
@@ -92,7 +107,7 @@ fn put_schedule(
     schedule: &[u8],
 ) -> Result<(), NoMemory>
     requires { IsFeasible (inputs_of problem.now) schedule.now }
-    ensures { OnOk result (text.new.items ≡ text.old.items ++ schedule_lines (inputs_of problem.now) schedule.now (length (inputs_of problem.now).net)) }
+    ensures { OnOk result (text.new.items ≡ text.old.items ++ all_lines (inputs_of problem.now) schedule.now) }
 {
     let modes = problem.battery().modes.as_slice();
     let mut level = problem.battery().start;

@@ -3,9 +3,8 @@
 ghost use Rattle.std.specs.Prelude.{◌≡◌, ◌↔◌, ◌<◌, ℕ, ℤ, IsTrue, IfNone, IfSome, option_map};
 ghost use Rattle.std.specs.Option.{ForSome};
 ghost use Rattle.d_cal.specs.Calendar.{IsDayOf};
-ghost use Rattle.d_cal.specs.Schedules.{period_of};
 ghost use Rattle.d_tariff.specs.Shown.{terms_of};
-ghost use Rattle.d_run.specs.Record.{IsOnlyPeriod, IsOnePrice, IsFree, HasFreeHours, IsEnergyAlone, flat_period};
+ghost use Rattle.d_run.specs.Record.{HasOnePeriod, IsInPeriod, IsOnePrice, IsFree, HasFreeHours, HasFreeDays, IsEnergyAlone, flat_period};
 
 use d_cal::Schedule;
 use d_model::Month;
@@ -14,7 +13,7 @@ use d_tariff::{Period, Tariff};
 use d_tier::Tiers;
 
 /// The price that all energy of the month has, or None exactly where it has none or something else is billed: where several periods
-/// occur, or the one that does has several tiers or pays for energy sent out, where a demand period that occurs or the month's flat demand
+/// occur, or the one that does has several tiers or pays for export, where a demand period that occurs or the month's flat demand
 /// period has a price other than 0, where there is a fixed charge other than 0, or a minimum.
 pub fn one_price(tariff: &Tariff, month: Month) -> Option<Rate>
     ensures none { IfNone result ((price : ℤ) → IsOnePrice (terms_of tariff.now) month.year month.number price → ⊥) }
@@ -51,7 +50,7 @@ fn has_energy_alone(tariff: &Tariff, month: d_cal::Month) -> bool
 
 /// Whether in each hour of the month demand has no price other than 0.
 fn has_free_days(tariff: &Tariff, month: d_cal::Month) -> bool
-    ensures { IsTrue result ↔ ((day : ℕ) → IsDayOf month.year month.number day → HasFreeHours (terms_of tariff.now) month.year month.number day) }
+    ensures { IsTrue result ↔ HasFreeDays (terms_of tariff.now) month.year month.number }
 {
     let days = month.days();
     for day in 1..days + 1 {
@@ -100,7 +99,7 @@ fn has_no_price(tiers: &Tiers) -> bool
 
 /// Whether each hour of the month is in the period of its first hour.
 fn has_one_period(hours: &Schedule, month: d_cal::Month) -> bool
-    ensures { IsTrue result ↔ IsOnlyPeriod hours.now.weekday hours.now.weekend month.year month.number (period_of hours.now.weekday hours.now.weekend month.year month.number 1 0) }
+    ensures { IsTrue result ↔ HasOnePeriod hours.now.weekday hours.now.weekend month.year month.number }
 {
     let period = hours.period_at(month, 1, 0);
     for day in 1..month.days() + 1 {
@@ -114,7 +113,7 @@ fn has_one_period(hours: &Schedule, month: d_cal::Month) -> bool
 /// Whether each hour of the day is in this period.
 fn is_in_period(hours: &Schedule, month: d_cal::Month, day: u8, period: u8) -> bool
     requires { IsDayOf month.year month.number day }
-    ensures { IsTrue result ↔ ((hour : ℕ) → hour < 24 → period_of hours.now.weekday hours.now.weekend month.year month.number day hour ≡ period) }
+    ensures { IsTrue result ↔ IsInPeriod hours.now.weekday hours.now.weekend month.year month.number day period }
 {
     for hour in 0..24 {
         if hours.period_at(month, day, hour) != period {
@@ -124,7 +123,7 @@ fn is_in_period(hours: &Schedule, month: d_cal::Month, day: u8, period: u8) -> b
     true
 }
 
-/// The one price of a period that has one and pays nothing for energy sent out, or None exactly where it has several or pays.
+/// The one price of a period that has one and pays nothing for export, or None exactly where it has several or pays.
 fn flat_price(period: &Period) -> Option<Rate>
     ensures none { IfNone result ((price : ℤ) → period.now ≡ flat_period price → ⊥) }
     ensures some { IfSome result (λ price. period.now ≡ flat_period price) }

@@ -2,10 +2,8 @@
 
 ghost use Rattle.std.specs.Prelude.{◌≡◌, ℕ, ◌+◌, ◌*◌, ◌<◌, ℤ, [], ◌∷◌, List, length, codes, IfOk, IfSome, IsSome, IsErrOf};
 ghost use Rattle.jiff_core.specs.Calendar.{days_in_month};
-ghost use Rattle.d_model.specs.Calendar.{IsMonth};
-ghost use Rattle.d_model.specs.Starts.{IsStartText};
 ghost use Rattle.d_table.specs.Table.{rows_of, row_at, IsHeader, IsRectangular};
-ghost use Rattle.d_run.specs.ReadingsFile.{IsReadingsFile, AreReadingRows, IsReadingRow};
+ghost use Rattle.d_run.specs.ReadingsFile.{IsReadingsFile, AreReadingRows, IsReadingRow, IsNoMonth, IsNoReadingRow, IfMonth, IfFirstStart};
 
 use crate::fault::ReadFault;
 use crate::number::{read_digits, read_reading};
@@ -20,7 +18,7 @@ const MINUTES: u8 = 60;
 /// The month of hourly readings in the file, or Refused exactly where the file isn't the header and one row for each hour of one
 /// month, in order, each with its start and a decimal of whole Wh, at most 10^9 in size.
 pub fn read_readings(alloc: Global, bytes: &[u8]) -> Result<Meter, ReadFault>
-    ensures refused { IsErrOf result ReadFault.Refused → (year : ℤ) (number : ℕ) (net : List ℤ) → IsReadingsFile (rows_of bytes.now) year number net → ⊥ }
+    ensures refused { IsErrOf result ReadFault.Refused → IsNoMonth (rows_of bytes.now) }
     ensures minutes { IfOk result (λ meter. meter.minutes ≡ 60) }
     ensures month { IfOk result (λ meter. IsReadingsFile (rows_of bytes.now) meter.month.year meter.month.number meter.net) }
 {
@@ -30,7 +28,7 @@ pub fn read_readings(alloc: Global, bytes: &[u8]) -> Result<Meter, ReadFault>
 
 /// The month of hourly readings in the table, or Refused exactly where it isn't one.
 fn month_in(alloc: Global, table: &Table) -> Result<Meter, ReadFault>
-    ensures refused { IsErrOf result ReadFault.Refused → (year : ℤ) (number : ℕ) (net : List ℤ) → IsReadingsFile table.now year number net → ⊥ }
+    ensures refused { IsErrOf result ReadFault.Refused → IsNoMonth table.now }
     ensures minutes { IfOk result (λ meter. meter.minutes ≡ 60) }
     ensures month { IfOk result (λ meter. IsReadingsFile table.now meter.month.year meter.month.number meter.net) }
 {
@@ -50,8 +48,8 @@ fn named_month(table: &Table) -> Option<Month>
     ensures header { IfSome result (λ month. IsHeader (codes "start" ∷ codes "net_wh" ∷ []) (row_at table.now 0)) }
     ensures even { IfSome result (λ month. IsRectangular table.now) }
     ensures count { IfSome result (λ month. length table.now ≡ days_in_month month.year month.number * 24 + 1) }
-    ensures named { (year : ℤ) (number : ℕ) (net : List ℤ) → IsReadingsFile table.now year number net → IfSome result (λ month. (month.year ≡ year) × (month.number ≡ number)) }
-    ensures some { (year : ℤ) (number : ℕ) (net : List ℤ) → IsReadingsFile table.now year number net → IsSome result }
+    ensures named { IfMonth table.now (λ year number. IfSome result (λ month. (month.year ≡ year) × (month.number ≡ number))) }
+    ensures some { IfMonth table.now (λ year number. IsSome result) }
 {
     if table.rows() == 0 || !table.has_header(&[b"start", b"net_wh"]) {
         return None;
@@ -66,9 +64,9 @@ fn named_month(table: &Table) -> Option<Month>
 
 /// The month whose year and number the cell begins with. Where the cell is the start of a month's first interval, this is that month.
 fn month_of(cell: &[u8]) -> Option<Month>
-    ensures year { (year : ℤ) (number : ℕ) → IsMonth year number → IsStartText cell.now year number 60 0 → IfSome result (λ month. month.year ≡ year) }
-    ensures number { (year : ℤ) (number : ℕ) → IsMonth year number → IsStartText cell.now year number 60 0 → IfSome result (λ month. month.number ≡ number) }
-    ensures some { (year : ℤ) (number : ℕ) → IsMonth year number → IsStartText cell.now year number 60 0 → IsSome result }
+    ensures year { IfFirstStart cell.now (λ year number. IfSome result (λ month. month.year ≡ year)) }
+    ensures number { IfFirstStart cell.now (λ year number. IfSome result (λ month. month.number ≡ number)) }
+    ensures some { IfFirstStart cell.now (λ year number. IsSome result) }
 {
     if cell.len() < 7 {
         return None;
@@ -100,7 +98,7 @@ fn read_row(table: &Table, month: Month, hour: u32) -> Result<Wh, ReadFault>
     requires cells { length (row_at table.now (hour + 1)) ≡ 2 }
     requires there { hour + 1 < length table.now }
     requires hour { hour < days_in_month month.year month.number * 24 }
-    ensures refused { IsErrOf result ReadFault.Refused → (net : ℤ) → IsReadingRow (row_at table.now (hour + 1)) month.year month.number hour net → ⊥ }
+    ensures refused { IsErrOf result ReadFault.Refused → IsNoReadingRow (row_at table.now (hour + 1)) month.year month.number hour }
     ensures row { IfOk result (λ net. IsReadingRow (row_at table.now (hour + 1)) month.year month.number hour net) }
 {
     let row = hour as usize;

@@ -2,11 +2,9 @@
 
 ghost use Rattle.std.specs.Prelude.{◌≡◌};
 ghost use Rattle.d_table.specs.Table.{rows_of};
-ghost use Rattle.d_tariff.specs.Shown.{terms_of};
-ghost use Rattle.d_run.specs.Record.{IsRecord};
 ghost use Rattle.d_run.specs.RecordText.{record_text};
-ghost use Rattle.d_run.specs.Answer.{says, RefusesRecord};
-ghost use Rattle.d_run.specs.Replies.{EndsBy, Gives};
+ghost use Rattle.d_run.specs.Answer.{says};
+ghost use Rattle.d_run.specs.Replies.{EndsBy, GivesTariff};
 ghost use Rattle.d_run.specs.declared.verdict.Verdict.TheVariants.{Record};
 
 use crate::fault::{Fault, Refusal};
@@ -27,7 +25,7 @@ pub fn read_record(
     label: &str,
     rule: RuleChoice,
 ) -> Result<Tariff, Fault>
-    ensures { Gives (λ tariff. IsRecord (rows_of bytes.now) label.now rule (terms_of tariff)) (RefusesRecord (rows_of bytes.now) label.now rule) result }
+    ensures { GivesTariff (rows_of bytes.now) label.now rule result }
 {
     let label = label.as_bytes();
     let table = match read_where(alloc, bytes, b"label", label) {

@@ -1,10 +1,8 @@
 //! The reader of a schedule file.
 
-ghost use Rattle.std.specs.Prelude.{◌≡◌, List, ℕ};
 ghost use Rattle.d_table.specs.Table.{rows_of};
 ghost use Rattle.d_model.specs.Shown.{inputs_of};
-ghost use Rattle.d_run.specs.Answer.{MeansSchedule, RefusesSchedule};
-ghost use Rattle.d_run.specs.Replies.{Gives};
+ghost use Rattle.d_run.specs.Replies.{GivesSchedule};
 
 use crate::fault::{Fault, Refusal};
 use d_model::{Problem, ScheduleFault, read_schedule};
@@ -14,7 +12,7 @@ use std::alloc::Global;
 /// The modes of the schedule in the file, one an interval, as numbers of the battery's modes; or the refusal by the first check that
 /// fails: the rows' lengths and the header, the count of rows, and row by row its start and its mode's name.
 pub fn read_modes(alloc: Global, bytes: &[u8], problem: &Problem) -> Result<Vec<u8>, Fault>
-    ensures { Gives (λ modes. MeansSchedule (inputs_of problem.now) (rows_of bytes.now) modes.items) (RefusesSchedule (inputs_of problem.now) (rows_of bytes.now)) result }
+    ensures { GivesSchedule (inputs_of problem.now) (rows_of bytes.now) result }
 {
     let table = match read_table(alloc, bytes) {
         Ok(table) => table,

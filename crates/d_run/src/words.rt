@@ -1,13 +1,13 @@
 //! The words of a request.
 
-ghost use Rattle.std.specs.Prelude.{◌≡◌, ◌≢◌, ◌↔◌, ℕ, ◌<◌, ◌≤◌, List, length, map, drop, slice_index, slice_index_or, [], All, IsTrue, IfSome, MatchOption, codes, string_bytes};
-ghost use Rattle.d_run.specs.Words.{Asked, Wanted, front_of, words_of, command_of, options_of, HasNames, HasValues, IsRequest, IsValue, IsLabel};
-ghost use Rattle.d_run.specs.Asking.{asked_of, wanted_of, HasOptions, HasTask, EndsInRule};
+ghost use Rattle.std.specs.Prelude.{◌≡◌, ◌↔◌, ℕ, ◌<◌, ◌≤◌, length, map, slice_index_or, [], IsTrue, IfSome, MatchOption, string_bytes};
+ghost use Rattle.d_run.specs.Words.{front_of, words_of, HasNames, HasValues, IsRequest, IsValue, IsLabel};
+ghost use Rattle.d_run.specs.Asking.{asked_of, wanted_of, FindsRequest, FindsTask, HasOptions, HasBillOptions, HasTask, EndsInRule};
 
 use d_urdb::RuleChoice;
 
 /// What the words of a request name.
-#[derive(Clone, Copy, Debug)]
+#[derive(Clone, Copy)]
 pub struct Request<'a> {
     /// The name of the file of tariff records.
     pub records: &'a str,
@@ -22,14 +22,22 @@ pub struct Request<'a> {
 }
 
 /// What is wanted for a record and a month of readings.
-#[derive(Clone, Copy, Debug)]
+#[derive(Clone, Copy)]
 pub enum Task<'a> {
     /// A plan with the battery of this file.
-    Plan { battery: &'a str },
+    Plan {
+        /// The name of the battery file.
+        battery: &'a str,
+    },
     /// The bill of the readings alone.
     MeteredBill,
     /// The bill of a schedule file with a battery file.
-    ScheduleBill { battery: &'a str, schedule: &'a str },
+    ScheduleBill {
+        /// The name of the battery file.
+        battery: &'a str,
+        /// The name of the schedule file.
+        schedule: &'a str,
+    },
 }
 
 /// The request of the words `plan --records A --label L --readings R --battery B`, or of `bill --records A --label L --readings R` with
@@ -37,7 +45,7 @@ pub enum Task<'a> {
 /// the words are others: in another order, with a value that is empty or begins with a minus, or a label that isn't 1 to 64 bytes of
 /// printable ASCII without spaces.
 pub fn read_words(words: &[String]) -> Option<Request<'_>>
-    ensures { MatchOption result ((asked : Asked) → IsRequest (map string_bytes words.now) asked → ⊥) (λ request. IsRequest (map string_bytes words.now) (asked_of request)) }
+    ensures { FindsRequest (IsRequest (map string_bytes words.now)) result }
 {
     let request = read_options(words)?;
     if has_values(&request) {
@@ -49,7 +57,7 @@ pub fn read_words(words: &[String]) -> Option<Request<'_>>
 
 /// The request that the words name, whatever its values.
 fn read_options(words: &[String]) -> Option<Request<'_>>
-    ensures { MatchOption result ((asked : Asked) → map string_bytes words.now ≡ words_of asked → ⊥) (λ request. map string_bytes words.now ≡ words_of (asked_of request)) }
+    ensures { FindsRequest (λ asked. map string_bytes words.now ≡ words_of asked) result }
 {
     if ends_in_rule(words) {
         read_front(&words[..words.len() - 2], RuleChoice::NetBilling)
@@ -60,7 +68,7 @@ fn read_options(words: &[String]) -> Option<Request<'_>>
 
 /// The request by this rule that the words without those of the rule name.
 fn read_front(words: &[String], rule: RuleChoice) -> Option<Request<'_>>
-    ensures front { MatchOption result ((asked : Asked) → map string_bytes words.now ≡ front_of asked → ⊥) (λ request. map string_bytes words.now ≡ front_of (asked_of request)) }
+    ensures front { FindsRequest (λ asked. map string_bytes words.now ≡ front_of asked) result }
     ensures rule { IfSome result (λ request. request.rule ≡ rule) }
 {
     let task = read_task(words)?;
@@ -88,7 +96,7 @@ fn ends_in_rule(words: &[String]) -> bool
 /// What the command and the words behind the first seven want.
 fn read_task(words: &[String]) -> Option<Task<'_>>
     ensures long { MatchOption result (Unit {0}) (λ _. 7 ≤ length words.now) }
-    ensures task { MatchOption result ((wanted : Wanted) → HasTask (map string_bytes words.now) wanted → ⊥) (λ task. HasTask (map string_bytes words.now) (wanted_of task)) }
+    ensures task { FindsTask (HasTask (map string_bytes words.now)) result }
 {
     if words.len() == 7 && is_at(words, 0, "bill") {
         Some(Task::MeteredBill)
@@ -109,7 +117,7 @@ fn read_task(words: &[String]) -> Option<Task<'_>>
 /// Whether the options of a schedule's bill stand at their places.
 fn are_bill_options(words: &[String]) -> bool
     requires { length words.now ≡ 11 }
-    ensures { IsTrue result ↔ ((slice_index_or (map string_bytes words.now) 7 [] ≡ codes "--battery") × (slice_index_or (map string_bytes words.now) 9 [] ≡ codes "--schedule")) }
+    ensures { IsTrue result ↔ HasBillOptions (map string_bytes words.now) }
 {
     is_at(words, 7, "--battery") && is_at(words, 9, "--schedule")
 }

@@ -1,24 +1,13 @@
-use Rattle.std.proofs.Common.{◌≡◌, ℕ, List, Option, Some, None, Vec, Global, MatchOption, sym, ap, ◌∙◌, subst}
+use Rattle.std.proofs.Common.{◌≡◌, ℕ, Option, Some, None, Vec, Global, sym, ap, ◌∙◌, subst}
 use Rattle.std.proofs.lemmas.Result.{IfOk-weaker}
-use Rattle.d_num.specs.declared.pot.Pot.TheVariants.{NoWay}
 use Rattle.d_model.specs.Inputs.{Inputs, IsInRange}
-use Rattle.d_model.specs.Schedules.{IsFeasible}
-use Rattle.d_model.specs.Bills.{IsFirstLeast}
 use Rattle.d_model.specs.Shown.{inputs_of}
 use Rattle.d_path.specs.Arcs.{Arcs, arcs_of, intervals_of, way_cost, IsSound}
 use Rattle.d_path.specs.Cheapest.{IsFirstCheapest}
-use Rattle.d_run.specs.PlanWays.{plan_arcs}
+use Rattle.d_run.specs.PlanWays.{plan_arcs, IsFoundWay, IsFoundLeast}
 use Rattle.d_run.proofs.PlanArcs.{intervals_is, plan_sound}
 use Rattle.d_run.proofs.LeastWays.{first_least, none_of_ways}
 use Rattle.d_run.proofs.least.least_schedule.Goals as goal
-
--- nothing where there is no way, or the first cheapest way
-abbrev IsFoundWay : Arcs → ℕ → Option (Vec ℕ Global) → Type 0
-IsFoundWay a start found = MatchOption found ((s : List ℕ) → way_cost a 0 start s ≡ NoWay) (λ way. IsFirstCheapest a 0 start way.items)
-
--- nothing where no schedule is feasible, or the first least schedule
-abbrev IsFoundLeast : Inputs → Option (Vec ℕ Global) → Type 0
-IsFoundLeast i found = MatchOption found ((s : List ℕ) → IsFeasible i s → ⊥) (λ schedule. IsFirstLeast i schedule.items)
 
 -- what is found of the ways is found of the schedules
 found_is : (i : Inputs) → IsInRange i → (a : Arcs) (start : ℕ) → a ≡ plan_arcs i → start ≡ i.storage.start → (found : Option (Vec ℕ Global)) → IsFoundWay a start found → IsFoundLeast i found
