@@ -1,39 +1,11 @@
 //! The dispatcher: plans a building's battery for one month and prints the plan with its exact bill, or the bill alone.
 #![tactic(auto)]
 
-mod answer;
-mod battery;
-mod bill;
-mod draft;
-mod entry;
-mod fault;
-mod law;
-mod least;
-mod lines;
-mod number;
-mod plan;
-mod price;
-#[cfg(test)]
-mod reader_tests;
-mod readings;
-mod real;
-mod record;
-mod record_line;
-mod reply;
-mod schedule;
-#[cfg(test)]
-mod tests;
-mod text;
-mod verdict;
-mod words;
-
-use answer::run;
-use real::RealDesk;
+use d_run::{RealDesk, Status, run};
 use std::io::ErrorKind;
 use std::process::ExitCode;
 use std::rt::Env;
 use std::{env, io};
-use verdict::Status;
 
 // The status where the words can't be had from the system, as where one isn't UTF-8.
 const NO_WORDS: u8 = 10;

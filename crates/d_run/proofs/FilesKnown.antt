@@ -1,0 +1,94 @@
+-- Each file's rows have one value, or one refusal.
+use Rattle.std.proofs.Common.{◌≡◌, ◌⊎◌, inl, inr, ℕ, ◌*◌, ◌^◌, ◌<◌, ℤ, pos, List, length, get_or, refl, ap, subst, ◌∙◌, arith}
+use Rattle.std.proofs.lemmas.List.{get_or_default}
+use Rattle.jiff_core.specs.Calendar.{days_in_month}
+use Rattle.jiff_core.proofs.CalendarLemmas.{days_in_month_bounds}
+use Rattle.d_num.specs.Amount.{IsWithin, IsRate}
+use Rattle.d_table.specs.Table.{row_at, IsRectangular}
+use Rattle.d_model.specs.declared.schedule.ScheduleFault.{ScheduleFault}
+use Rattle.d_model.specs.declared.schedule.ScheduleFault.TheVariants.{Shape}
+use Rattle.d_model.specs.Storage.{Storage, IsStorage}
+use Rattle.d_model.specs.Inputs.{Inputs, IsInRange}
+use Rattle.d_model.specs.Law.{HasOneSchedule, HasOneFault}
+use Rattle.d_model.proofs.ScheduleFound.{read_once}
+use Rattle.d_run.specs.ReadingsFile.{Hourly, IsHourly}
+use Rattle.d_run.specs.BatteryFile.{IsBatteryFile}
+use Rattle.d_run.specs.Answer.{Answer, refused, RefusesReadings, RefusesBattery, RefusesSchedule, MeansSchedule, hourly_inputs}
+use Rattle.d_run.specs.declared.fault.Refusal.TheVariants.{Readings, Battery, Schedule}
+use Rattle.d_run.proofs.Deciding.{Decided, holds, fails, Found, found, nothing, same_number, each_item}
+use Rattle.d_run.proofs.StageFacts.{IsKnown, known_refused, known_value}
+use Rattle.d_run.proofs.FileLaws.{month_same, battery_same}
+use Rattle.d_run.proofs.ReadingsFacts.{reading_small}
+use Rattle.d_run.proofs.MonthFound.{month_found}
+use Rattle.d_run.proofs.BatteryFound.{battery_found}
+
+-- readings are one month or refused
+pub month_known : (rows : List (List (List ℕ))) → IsKnown (RefusesReadings rows) (IsHourly rows)
+month_known rows = by_month (month_found rows)
+  where
+    made : ℤ → ℕ → List ℤ → Hourly
+    made y n w = record { year = y; number = n; net = w }
+
+    same_month : (one other : Hourly) → IsHourly rows one → IsHourly rows other → made other.year other.number other.net ≡ made one.year one.number one.net
+    same_month one other is is_other =
+        let same = month_same rows other.year one.year other.number one.number other.net one.net is_other is in
+        rw (same.year_is, same.number_is, same.net_is) refl
+
+    by_month : Found (IsHourly rows) → IsKnown (RefusesReadings rows) (IsHourly rows)
+    by_month (found month is) = known_value month is (λ other means. same_month month other is means) (λ end refuses. refuses.0 month is)
+    by_month (nothing none) = known_refused (refused Readings) (none, refl) (λ other refuses. refuses.1) none
+
+-- a battery is one or refused
+pub battery_known : (rows : List (List (List ℕ))) → IsKnown (RefusesBattery rows) (IsBatteryFile rows)
+battery_known rows = by_battery (battery_found rows)
+  where
+    by_battery : Found (IsBatteryFile rows) → IsKnown (RefusesBattery rows) (IsBatteryFile rows)
+    by_battery (found storage is) = known_value storage is (λ other means. battery_same rows other storage means is) (λ end refuses. refuses.0 storage is)
+    by_battery (nothing none) = known_refused (refused Battery) (none, refl) (λ other refuses. refuses.1) none
+
+-- a schedule is one or refused for one cause
+pub schedule_known : (i : Inputs) (rows : List (List (List ℕ))) → IsStorage i.storage → IsKnown (RefusesSchedule i rows) (MeansSchedule i rows)
+schedule_known i rows fine = by_shape (each_item (λ row. length row ≡ length (row_at rows 0)) (λ row. same_number (length row) (length (row_at rows 0))) rows)
+  where
+    shape_only : (IsRectangular rows → ⊥) → (other : Answer) → RefusesSchedule i rows other → other ≡ refused (Schedule Shape)
+    shape_only none other (inl shape) = shape.1
+    shape_only none other (inr fault) = absurd (none fault.1)
+
+    fault_only : IsRectangular rows → (one : HasOneFault i rows) → (other : Answer) → RefusesSchedule i rows other → other ≡ refused (Schedule one.fault)
+    fault_only even one other (inl shape) = absurd (shape.0 even)
+    fault_only even one other (inr fault) = fault.3 ∙ ap (λ (f : ScheduleFault). refused (Schedule f)) (one.only fault.0 fault.2)
+
+    not_refused : IsRectangular rows → (one : HasOneSchedule i rows) → (end : Answer) → RefusesSchedule i rows end → ⊥
+    not_refused even one end (inl shape) = shape.0 even
+    not_refused even one end (inr fault) = one.right fault.0 fault.2
+
+    by_law : IsRectangular rows → HasOneSchedule i rows ⊎ HasOneFault i rows → IsKnown (RefusesSchedule i rows) (MeansSchedule i rows)
+    by_law even (inl one) = known_value one.schedule (even, one.is) (λ other means. one.only other means.1) (not_refused even one)
+    by_law even (inr one) = known_refused (refused (Schedule one.fault)) (inr (one.fault, even, one.is, refl)) (fault_only even one) (λ value means. one.none value means.1)
+
+    by_shape : Decided (IsRectangular rows) → IsKnown (RefusesSchedule i rows) (MeansSchedule i rows)
+    by_shape (holds even) = by_law even (read_once i rows fine)
+    by_shape (fails none) = known_refused (refused (Schedule Shape)) (inl (none, refl)) (shape_only none) (λ value means. none means.0)
+
+-- what the files mean is in range
+pub hourly_in_range : (readings stored : List (List (List ℕ))) (price : ℤ) (month : Hourly) (storage : Storage)
+    → IsRate price → IsHourly readings month → IsBatteryFile stored storage → IsInRange (hourly_inputs price month storage)
+hourly_in_range readings stored price month storage fair is_month battery =
+    let days = days_in_month_bounds month.year month.number in
+    let whole : length month.net ≡ days_in_month month.year month.number * 24 = is_month.readings.whole in
+    record {
+      month = is_month.month;
+      minutes = inr (inr refl);
+      whole = omega (arith, whole);
+      some_interval = omega (arith, whole, days.1);
+      few_intervals = omega (arith, whole, days.0);
+      net = λ t d lt. net_small t d lt;
+      price = fair;
+      storage = battery.valid;
+    }
+  where
+    net_small : (t : ℕ) (d : ℤ) → t < length month.net → IsWithin (10 ^ 9) (get_or month.net t d)
+    net_small t d lt =
+        let row = is_month.readings.each t lt in
+        let same : get_or month.net t (pos 0) ≡ get_or month.net t d = get_or_default month.net t (pos 0) d lt in
+        subst (λ (z : ℤ). IsWithin (10 ^ 9) z) same (reading_small row.value (get_or month.net t (pos 0)) row.reading)

@@ -1,0 +1,196 @@
+-- What the program answers to a list of words, given the files: a verdict, the text that it prints, and the files that it opens.
+-- The files are read one after the other, and the first that is too long or refused decides.
+use Rattle.std.specs.Prelude.{◌≡◌, ◌⊎◌, ℕ, ◌^◌, ◌<◌, ◌≤◌, ◌++◌, ℤ, pos, List, [], ◌∷◌, length, codes}
+use Rattle.d_desk.specs.Scene.{Files, Opening, opening, bytes_in}
+use Rattle.d_desk.specs.declared.opened.Direction.TheVariants.{In}
+use Rattle.std.specs.Fmt.{decimal}
+use Rattle.d_table.specs.Table.{rows_of, IsRectangular, IsFirstOdd}
+use Rattle.d_tariff.specs.Terms.{Terms}
+use Rattle.d_urdb.specs.declared.fault.Refused.{Refused}
+use Rattle.d_urdb.specs.declared.rule.RuleChoice.{RuleChoice}
+use Rattle.d_model.specs.declared.schedule.ScheduleFault.{ScheduleFault}
+use Rattle.d_model.specs.declared.schedule.ScheduleFault.TheVariants.{Shape}
+use Rattle.d_model.specs.Storage.{Storage}
+use Rattle.d_model.specs.Inputs.{Inputs}
+use Rattle.d_model.specs.Schedules.{IsFeasible, IsFirstBreak}
+use Rattle.d_model.specs.Bills.{IsFirstLeast, bill_of, metered_bill}
+use Rattle.d_model.specs.ScheduleFile.{IsScheduleFile, IsScheduleFault}
+use Rattle.d_run.specs.Words.{Asked, Wanted, IsRequest, plan_with, metered_bill as wants_metered_bill, schedule_bill}
+use Rattle.d_run.specs.Record.{IsRecord, IsRecordFault, IsOnePrice, rows_with_label}
+use Rattle.d_run.specs.RecordText.{record_text}
+use Rattle.d_run.specs.ReadingsFile.{Hourly, IsHourly}
+use Rattle.d_run.specs.BatteryFile.{IsBatteryFile}
+use Rattle.d_run.specs.Text.{line, plan_text, bill_text, break_text, schedule_fault_text}
+use Rattle.d_run.specs.declared.verdict.Verdict.{Verdict}
+use Rattle.d_run.specs.declared.verdict.Verdict.TheVariants as verdict
+use Rattle.d_run.specs.declared.fault.Refusal.{Refusal}
+use Rattle.d_run.specs.declared.fault.Refusal.TheVariants.{Words, LongRecord, RecordShape, LongReadings, Readings, NotYet, LongBattery, Battery, LongSchedule, Schedule}
+
+-- a verdict, the text that is printed, and the files that are opened, in order
+pub record Answer : Type 0 where
+  pub verdict : Verdict
+  pub text : List ℕ
+  pub openings : List Opening
+
+-- an answer that opens nothing
+abbrev pub says : Verdict → List ℕ → Answer
+says v text = record { verdict = v; text = text; openings = [] }
+
+-- an answer after this file was opened for reading
+abbrev pub after_opening : List ℕ → Answer → Answer
+after_opening name answer = record { verdict = answer.verdict; text = answer.text; openings = opening In name ∷ answer.openings }
+
+-- the verdict of a refusal
+abbrev pub refusal_verdict : Refusal → Verdict
+refusal_verdict Words = verdict.Words
+refusal_verdict LongRecord = verdict.Record
+refusal_verdict (RecordShape row) = verdict.Record
+refusal_verdict LongReadings = verdict.Readings
+refusal_verdict Readings = verdict.Readings
+refusal_verdict NotYet = verdict.Record
+refusal_verdict LongBattery = verdict.Battery
+refusal_verdict Battery = verdict.Battery
+refusal_verdict LongSchedule = verdict.Battery
+refusal_verdict (Schedule fault) = verdict.Battery
+
+-- the text of a refusal
+abbrev pub refusal_text : Refusal → List ℕ
+refusal_text Words = line (codes "refused words 23 NotYet")
+refusal_text LongRecord = line (codes "refused record 0 TooLong")
+refusal_text (RecordShape row) = line (codes "refused record 0 Shape " ++ decimal row)
+refusal_text LongReadings = line (codes "refused readings 0 TooLong")
+refusal_text Readings = line (codes "refused readings 23 NotYet")
+refusal_text NotYet = line (codes "refused record 23 NotYet none 1")
+refusal_text LongBattery = line (codes "refused battery 0 TooLong")
+refusal_text Battery = line (codes "refused battery 23 NotYet")
+refusal_text LongSchedule = line (codes "refused schedule 0 TooLong")
+refusal_text (Schedule fault) = line (codes "refused schedule " ++ schedule_fault_text fault)
+
+-- the answer to what is refused
+abbrev pub refused : Refusal → Answer
+refused refusal = says (refusal_verdict refusal) (refusal_text refusal)
+
+-- the greatest size of a record file, in bytes
+abbrev pub longest_record : ℕ
+longest_record = 2 ^ 30
+
+-- the greatest size of a readings, battery or schedule file, in bytes
+abbrev pub longest_file : ℕ
+longest_file = 2 ^ 24
+
+-- a file in an answer: it is opened, and above its limit or refused by its rows it ends the answer; else its value goes on
+pub data Reads {V : Type 0} (files : Files) (name : List ℕ) (limit : ℕ) (too_long : Refusal) (Refuses : Answer → Type 0) (Means : V → Type 0)
+    (Next : V → Answer → Type 0) (answer : Answer) : Type 0 where
+  is_too_long : limit < length (bytes_in files name) → answer ≡ after_opening name (refused too_long)
+      → Reads files name limit too_long Refuses Means Next answer
+  is_refused : length (bytes_in files name) ≤ limit → (end : Answer) → Refuses end → answer ≡ after_opening name end
+      → Reads files name limit too_long Refuses Means Next answer
+  goes_on : length (bytes_in files name) ≤ limit → (value : V) → Means value → (rest : Answer) → Next value rest → answer ≡ after_opening name rest
+      → Reads files name limit too_long Refuses Means Next answer
+
+-- a file's rows
+abbrev pub rows_in : Files → List ℕ → List (List (List ℕ))
+rows_in files name = rows_of (bytes_in files name)
+
+-- a record file is refused by its first row of another length, or its record is
+abbrev pub RefusesRecord : List (List (List ℕ)) → List ℕ → RuleChoice → Answer → Type 0
+RefusesRecord rows label rule end = ((row : ℕ) × IsFirstOdd rows row × (end ≡ refused (RecordShape row)))
+    ⊎ ((fault : Refused) × IsRecordFault rows label rule fault × (end ≡ says verdict.Record (record_text (rows_with_label label rows) fault)))
+
+-- readings are refused where they are no month
+abbrev pub RefusesReadings : List (List (List ℕ)) → Answer → Type 0
+RefusesReadings rows end = ((month : Hourly) → IsHourly rows month → ⊥) × (end ≡ refused Readings)
+
+-- a battery is refused where the rows are none
+abbrev pub RefusesBattery : List (List (List ℕ)) → Answer → Type 0
+RefusesBattery rows end = ((storage : Storage) → IsBatteryFile rows storage → ⊥) × (end ≡ refused Battery)
+
+-- a schedule is refused by its rows' lengths, or by the first check that fails
+abbrev pub RefusesSchedule : Inputs → List (List (List ℕ)) → Answer → Type 0
+RefusesSchedule i rows end = ((IsRectangular rows → ⊥) × (end ≡ refused (Schedule Shape)))
+    ⊎ ((fault : ScheduleFault) × IsRectangular rows × IsScheduleFault i rows fault × (end ≡ refused (Schedule fault)))
+
+-- rows of one length are a schedule
+abbrev pub MeansSchedule : Inputs → List (List (List ℕ)) → List ℕ → Type 0
+MeansSchedule i rows schedule = IsRectangular rows × IsScheduleFile i rows schedule
+
+-- the record file in an answer
+abbrev pub ReadsRecord : Files → List ℕ → List ℕ → RuleChoice → (Terms → Answer → Type 0) → Answer → Type 0
+ReadsRecord files name label rule Next answer =
+    Reads files name longest_record LongRecord (RefusesRecord (rows_in files name) label rule) (IsRecord (rows_in files name) label rule) Next answer
+
+-- the readings file in an answer
+abbrev pub ReadsReadings : Files → List ℕ → (Hourly → Answer → Type 0) → Answer → Type 0
+ReadsReadings files name Next answer =
+    Reads files name longest_file LongReadings (RefusesReadings (rows_in files name)) (IsHourly (rows_in files name)) Next answer
+
+-- the battery file in an answer
+abbrev pub ReadsBattery : Files → List ℕ → (Storage → Answer → Type 0) → Answer → Type 0
+ReadsBattery files name Next answer =
+    Reads files name longest_file LongBattery (RefusesBattery (rows_in files name)) (IsBatteryFile (rows_in files name)) Next answer
+
+-- the schedule file in an answer
+abbrev pub ReadsSchedule : Files → List ℕ → Inputs → (List ℕ → Answer → Type 0) → Answer → Type 0
+ReadsSchedule files name i Next answer =
+    Reads files name longest_file LongSchedule (RefusesSchedule i (rows_in files name)) (MeansSchedule i (rows_in files name)) Next answer
+
+-- what is planned or billed: the price, a month of hourly readings and a battery
+abbrev pub hourly_inputs : ℤ → Hourly → Storage → Inputs
+hourly_inputs price month storage =
+    record { year = month.year; number = month.number; minutes = 60; net = month.net; price = price; storage = storage }
+
+-- no battery: no level but 0, and one mode that changes nothing
+abbrev pub no_storage : Storage
+no_storage = record {
+  floor = 0;
+  capacity = 0;
+  start = 0;
+  end = 0;
+  max_import = pos (10 ^ 10);
+  max_export = pos (10 ^ 10);
+  modes = record { name = codes "idle"; change = pos 0; grid = pos 0; low = 0; high = 255 } ∷ [];
+}
+
+-- the answer to a request for a plan: the first least schedule, or that no schedule is feasible
+pub data IsPlanned (i : Inputs) (label : List ℕ) (answer : Answer) : Type 0 where
+  no_schedule : ((schedule : List ℕ) → IsFeasible i schedule → ⊥) → answer ≡ says verdict.NoSchedule (line (codes "no schedule"))
+      → IsPlanned i label answer
+  least : (schedule : List ℕ) → IsFirstLeast i schedule → answer ≡ says verdict.Done (plan_text i label schedule) → IsPlanned i label answer
+
+-- the answer to a request for the bill of a schedule: the bill, or the first interval in which it breaks a rule
+pub data IsBilled (i : Inputs) (label schedule : List ℕ) (answer : Answer) : Type 0 where
+  billed : IsFeasible i schedule → answer ≡ says verdict.Done (bill_text i label (bill_of i schedule)) → IsBilled i label schedule answer
+  broken : (t : ℕ) → IsFirstBreak i schedule t → answer ≡ says verdict.NoSchedule (break_text t) → IsBilled i label schedule answer
+
+-- the answer to a request for the bill of the readings alone
+abbrev pub IsMeteredBill : Inputs → List ℕ → Answer → Type 0
+IsMeteredBill i label answer = answer ≡ says verdict.Done (bill_text i label (metered_bill i))
+
+-- the answer where price and month are known
+abbrev pub IsFor : Files → List ℕ → ℤ → Hourly → Wanted → Answer → Type 0
+IsFor files label price month (plan_with battery) answer =
+    ReadsBattery files battery (λ storage. IsPlanned (hourly_inputs price month storage) label) answer
+IsFor files label price month wants_metered_bill answer = IsMeteredBill (hourly_inputs price month no_storage) label answer
+IsFor files label price month (schedule_bill battery schedule) answer =
+    ReadsBattery files battery (λ storage.
+    ReadsSchedule files schedule (hourly_inputs price month storage) (IsBilled (hourly_inputs price month storage) label)) answer
+
+-- the answer where terms and month are known: all energy of the month has one price, or the record is refused after all
+pub data IsPriced (terms : Terms) (month : Hourly) (Next : ℤ → Answer → Type 0) (answer : Answer) : Type 0 where
+  no_price : ((price : ℤ) → IsOnePrice terms month.year month.number price → ⊥) → answer ≡ refused NotYet
+      → IsPriced terms month Next answer
+  one_price : (price : ℤ) → IsOnePrice terms month.year month.number price → Next price answer → IsPriced terms month Next answer
+
+-- the answer where the terms are known
+abbrev pub IsWithTerms : Files → Asked → Terms → Answer → Type 0
+IsWithTerms files asked terms answer =
+    ReadsReadings files asked.readings (λ month. IsPriced terms month (λ price. IsFor files asked.label price month asked.wanted)) answer
+
+-- the answer to a request
+abbrev pub IsAnswerTo : Files → Asked → Answer → Type 0
+IsAnswerTo files asked answer = ReadsRecord files asked.records asked.label asked.rule (IsWithTerms files asked) answer
+
+-- the answer to a list of words: they are no request, and nothing is opened; or they are, and the files decide
+pub data IsAnswer (words : List (List ℕ)) (files : Files) (answer : Answer) : Type 0 where
+  no_request : ((asked : Asked) → IsRequest words asked → ⊥) → answer ≡ refused Words → IsAnswer words files answer
+  request : (asked : Asked) → IsRequest words asked → IsAnswerTo files asked answer → IsAnswer words files answer

@@ -1,0 +1,16 @@
+pub mod Words
+pub mod Asking
+pub mod Record
+pub mod Text
+pub mod RecordText
+pub mod ReadingsFile
+pub mod BatteryFile
+pub mod Answer
+pub mod Runs
+pub mod Replies
+pub mod PlanWays
+pub mod PlanLines
+pub mod Law
+pub mod Draft
+pub mod Faults
+pub mod Prepared

@@ -1,0 +1,59 @@
+-- What each part of a run prepares, by the files as they are before it.
+use Rattle.std.specs.Prelude.{ℕ, ◌≤◌, ℤ, List, Result, IsErrOf}
+use Rattle.d_desk.specs.Cause.{Rose}
+use Rattle.d_desk.specs.Scene.{Files, Scene}
+use Rattle.d_model.specs.Inputs.{Inputs}
+use Rattle.d_model.specs.Shown.{plain_of}
+use Rattle.d_model.specs.declared.battery.Battery.{Battery}
+use Rattle.d_model.specs.declared.meter.Meter.{Meter}
+use Rattle.d_tariff.specs.Shown.{terms_of}
+use Rattle.d_tariff.specs.declared.tariff.Tariff.{Tariff}
+use Rattle.d_run.specs.Asking.{asked_of, wanted_of}
+use Rattle.d_run.specs.Answer.{Answer, IsAnswerTo, IsWithTerms, IsPriced, IsFor, IsPlanned, IsBilled, ReadsBattery, ReadsSchedule}
+use Rattle.d_run.specs.Replies.{PreparesOne, hourly_of, inputs_with}
+use Rattle.d_run.specs.declared.fault.Fault.{Fault}
+use Rattle.d_run.specs.declared.fault.Fault.TheVariants.{Failed}
+use Rattle.d_run.specs.declared.reply.Reply.{Reply}
+use Rattle.d_run.specs.declared.words.Request.{Request}
+
+-- the desk's count of faults didn't fall, and it rose where the run stops since the desk failed
+pub record IsCaused {T : Type 0} (before now : ℕ) (result : Result T Fault) : Type 0 where
+  pub later : before ≤ now
+  pub failed : IsErrOf result Failed → Rose before now
+
+-- the answer that these files give is prepared, or the run stops
+abbrev pub Prepares : (Files → Answer → Type 0) → Scene → Scene → Result Reply Fault → Type 0
+Prepares Is before now result = PreparesOne (Is before.files) before now result
+
+-- the answer to a request
+abbrev pub IsRequested : Request → Files → Answer → Type 0
+IsRequested request files = IsAnswerTo files (asked_of request)
+
+-- the answer where the tariff is known
+abbrev pub IsWithTariff : Request → Tariff → Files → Answer → Type 0
+IsWithTariff request tariff files = IsWithTerms files (asked_of request) (terms_of tariff)
+
+-- the answer where the price is known too
+abbrev pub IsWithPrice : Request → Meter → ℤ → Files → Answer → Type 0
+IsWithPrice request meter price files = IsFor files request.label.now price (hourly_of meter) (wanted_of request.task)
+
+-- the answer where tariff and readings are known
+abbrev pub IsWithMeter : Request → Tariff → Meter → Files → Answer → Type 0
+IsWithMeter request tariff meter files = IsPriced (terms_of tariff) (hourly_of meter) (λ price. IsWithPrice request meter price files)
+
+-- the plan with the battery of this file
+abbrev pub Plans : List ℕ → List ℕ → ℤ → Meter → Files → Answer → Type 0
+Plans battery label price meter files = ReadsBattery files battery (λ storage. IsPlanned (inputs_with price meter storage) label)
+
+-- the bill of the schedule of this file
+abbrev pub BillsSchedule : List ℕ → List ℕ → Inputs → Files → Answer → Type 0
+BillsSchedule schedule label i files = ReadsSchedule files schedule i (IsBilled i label)
+
+-- the bill of the schedule of this file with a battery
+abbrev pub BillsWith : List ℕ → List ℕ → ℤ → Meter → Battery → Files → Answer → Type 0
+BillsWith schedule label price meter battery files = BillsSchedule schedule label (plain_of price meter battery) files
+
+-- the bill of the schedule of the one file with the battery of the other
+abbrev pub Bills : List ℕ → List ℕ → List ℕ → ℤ → Meter → Files → Answer → Type 0
+Bills battery schedule label price meter files =
+    ReadsBattery files battery (λ storage. BillsSchedule schedule label (inputs_with price meter storage) files)

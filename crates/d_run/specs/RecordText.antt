@@ -1,0 +1,27 @@
+-- The line that says why a record is refused. Its form, and the numbers and names of the refusals, are our own.
+use Rattle.std.specs.Prelude.{ℕ, nat_lt, List, [], ◌∷◌, ◌++◌, length, slice_index_or, codes, if◌then◌else◌}
+use Rattle.std.specs.Fmt.{decimal}
+use Rattle.d_table.specs.Table.{row_at, cell_in}
+use Rattle.d_urdb.specs.declared.fault.Refused.{Refused}
+use Rattle.d_run.specs.Text.{line, shown, behind_blank}
+
+-- the names of the refusals by their numbers, from 0
+abbrev pub refusal_names : List (List ℕ)
+refusal_names =
+    codes "Shape" ∷ codes "NoLabel" ∷ codes "LabelTwice" ∷ codes "NoColumn" ∷ codes "Decimal" ∷ codes "Grid" ∷ codes "EnergyMissing"
+    ∷ codes "TierHole" ∷ codes "TierOrder" ∷ codes "TierUnit" ∷ codes "SellTiers" ∷ codes "DemandFalls" ∷ codes "DemandUnit"
+    ∷ codes "NetMetering" ∷ codes "BuyAllSellAll" ∷ codes "HourlyRule" ∷ codes "Coincident" ∷ codes "Reactive" ∷ codes "AnnualMinimum"
+    ∷ codes "FuelAdjustment" ∷ codes "ChargeUnit" ∷ codes "RuleUnknown" ∷ codes "Fraction" ∷ codes "NotYet" ∷ []
+
+-- the name of a refusal; none for a number that no refusal has
+abbrev pub refusal_name : ℕ → List ℕ
+refusal_name number = slice_index_or refusal_names number []
+
+-- the name of a column as it is shown; `none` where there is no such column
+abbrev pub column_text : List (List ℕ) → ℕ → List ℕ
+column_text header column = if nat_lt column (length header) then shown (cell_in header column) else codes "none"
+
+-- the line of a record's refusal: its number and name, its column, its detail, and the cell of the first data row where that isn't empty
+abbrev pub record_text : List (List (List ℕ)) → Refused → List ℕ
+record_text rows fault = line (codes "refused record " ++ (decimal fault.number ++ 32 ∷ (refusal_name fault.number
+    ++ 32 ∷ (column_text (row_at rows 0) fault.column ++ 32 ∷ (decimal fault.detail ++ behind_blank (cell_in (row_at rows 1) fault.column))))))

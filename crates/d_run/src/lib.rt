@@ -1,0 +1,33 @@
+//! A run of the dispatcher over a desk: from the words to the printed plan or bill.
+//!
+//! It reads the files that the words name, refuses each with its cause, finds the first least schedule of the battery or bills one
+//! that it is given, and prints the answer. What the words, the files and the printed text mean stands in `specs`. Which words the
+//! program was called with and what the system's files hold, no contract here says.
+#![tactic(auto)]
+
+mod answer;
+mod battery;
+mod bill;
+mod draft;
+mod entry;
+mod fault;
+mod law;
+mod least;
+mod lines;
+mod number;
+mod plan;
+mod price;
+mod readings;
+mod real;
+mod record;
+mod record_line;
+mod reply;
+mod schedule;
+mod text;
+mod verdict;
+mod words;
+
+pub use answer::run;
+pub use law::answers_once;
+pub use real::RealDesk;
+pub use verdict::Status;

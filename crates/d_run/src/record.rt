@@ -1,0 +1,54 @@
+//! The reader of a record file.
+
+ghost use Rattle.std.specs.Prelude.{◌≡◌};
+ghost use Rattle.d_table.specs.Table.{rows_of};
+ghost use Rattle.d_run.specs.RecordText.{record_text};
+ghost use Rattle.d_run.specs.Answer.{says};
+ghost use Rattle.d_run.specs.Replies.{EndsBy, GivesTariff};
+ghost use Rattle.d_run.specs.declared.verdict.Verdict.TheVariants.{Record};
+
+use crate::fault::{Fault, Refusal};
+use crate::record_line::record_line;
+use crate::reply::Reply;
+use crate::verdict::Verdict;
+use d_num::NoMemory;
+use d_table::{Table, TableFault, read_where};
+use d_tariff::Tariff;
+use d_urdb::{RecordFault, Refused, RuleChoice};
+use std::alloc::Global;
+
+/// The tariff of the record of this label in the file. It is refused by the first row of another length than the header, or by the
+/// first refusal of the record itself; the line names the column at fault, where there is one, and shows its cell.
+pub fn read_record(
+    alloc: Global,
+    bytes: &[u8],
+    label: &str,
+    rule: RuleChoice,
+) -> Result<Tariff, Fault>
+    ensures { GivesTariff (rows_of bytes.now) label.now rule result }
+{
+    let label = label.as_bytes();
+    let table = match read_where(alloc, bytes, b"label", label) {
+        Ok(table) => table,
+        Err(TableFault::Shape(row)) => return Err(Refusal::RecordShape(row).fault(alloc)),
+        Err(TableFault::Memory) => return Err(Fault::Memory),
+    };
+    match d_urdb::read_record(alloc, &table, label, rule) {
+        Ok(tariff) => Ok(tariff),
+        Err(RecordFault::Refused(refused)) => Err(record_fault(alloc, &table, refused)),
+        Err(RecordFault::Memory) => Err(Fault::Memory),
+    }
+}
+
+/// The fault of a record that is refused so.
+fn record_fault(alloc: Global, table: &Table, refused: Refused) -> Fault
+    ensures { EndsBy (λ end. end ≡ says Record (record_text table.now refused)) result }
+{
+    match record_line(alloc, table, refused) {
+        Ok(text) => Fault::Refused(Reply {
+            verdict: Verdict::Record,
+            text,
+        }),
+        Err(NoMemory) => Fault::Memory,
+    }
+}

@@ -1,0 +1,12 @@
+//! What the program replies.
+
+use crate::verdict::Verdict;
+
+/// A verdict and the text that is printed with it.
+#[derive(Drop)]
+pub struct Reply {
+    /// How the run ends where the text could be printed.
+    pub verdict: Verdict,
+    /// All that is printed, each line with its line feed.
+    pub text: Vec<u8>,
+}

@@ -1,0 +1,29 @@
+//! The reader of a schedule file.
+
+ghost use Rattle.d_table.specs.Table.{rows_of};
+ghost use Rattle.d_model.specs.Shown.{inputs_of};
+ghost use Rattle.d_run.specs.Replies.{GivesSchedule};
+
+use crate::fault::{Fault, Refusal};
+use d_model::{Problem, ScheduleFault, read_schedule};
+use d_table::{TableFault, read_table};
+use std::alloc::Global;
+
+/// The modes of the schedule in the file, one an interval, as numbers of the battery's modes; or the refusal by the first check that
+/// fails: the rows' lengths and the header, the count of rows, and row by row its start and its mode's name.
+pub fn read_modes(alloc: Global, bytes: &[u8], problem: &Problem) -> Result<Vec<u8>, Fault>
+    ensures { GivesSchedule (inputs_of problem.now) (rows_of bytes.now) result }
+{
+    let table = match read_table(alloc, bytes) {
+        Ok(table) => table,
+        Err(TableFault::Shape(_)) => {
+            return Err(Refusal::Schedule(ScheduleFault::Shape).fault(alloc));
+        }
+        Err(TableFault::Memory) => return Err(Fault::Memory),
+    };
+    let mut modes = vec![in alloc; 0u8; problem.intervals() as usize]?;
+    match read_schedule(&table, problem, modes.as_mut_slice()) {
+        Ok(()) => Ok(modes),
+        Err(fault) => Err(Refusal::Schedule(fault).fault(alloc)),
+    }
+}
