@@ -8,19 +8,11 @@ use Rattle.d_model.specs.Schedules.{IsFeasible}
 use Rattle.d_model.specs.Bills as model
 use Rattle.d_path.specs.Arcs.{way_cost}
 use Rattle.d_path.specs.Cheapest.{IsCheapest, IsFirstCheapest}
-use Rattle.d_path.specs.Cheapest as path
 use Rattle.d_path.proofs.CostLemmas.{NoWay-AtMost}
 use Rattle.d_path.proofs.ExistsLemmas.{NoneOrFirst, exists_first}
 use Rattle.d_run.specs.PlanWays.{plan_arcs}
 use Rattle.d_run.proofs.PlanArcs.{plan_sound}
 use Rattle.d_run.proofs.FeasibleWays.{feasible_cost, way_feasible}
-
--- the order of ways is the order of schedules
-not_after : (xs ys : List ℕ) → path.IsNotAfter xs ys → model.IsNotAfter xs ys
-not_after [] ys h = tt
-not_after (x ∷ xs) [] h = absurd h
-not_after (x ∷ xs) (y ∷ ys) (inl less) = inl less
-not_after (x ∷ xs) (y ∷ ys) (inr same) = inr (same.0, not_after xs ys same.1)
 
 module _ (i : Inputs) (fine : IsInRange i) where
   -- the first cheapest way is the first least schedule
@@ -35,7 +27,7 @@ module _ (i : Inputs) (fine : IsInRange i) where
               let below : AtMost (To (model.bill_of i s)) (way_cost (plan_arcs i) 0 i.storage.start z) = subst (λ (p : Pot). AtMost p (way_cost (plan_arcs i) 0 i.storage.start z)) cost (cheapest.least z) in
               subst (λ (p : Pot). AtMost (To (model.bill_of i s)) p) (feasible_cost i fine z other) below;
         };
-        first = λ z other same. not_after s z (cheapest.first z (feasible_cost i fine z other ∙ ap To same ∙ sym cost));
+        first = λ z other same. (cheapest.first z (feasible_cost i fine z other ∙ ap To same ∙ sym cost));
       }
 
   -- where no list is a way no schedule is feasible

@@ -22,6 +22,7 @@ pub mod Deciding
 pub mod DecimalFound
 pub mod WordPlaces
 pub mod RequestFound
+pub mod RecordKept
 pub mod RecordFound
 pub mod RecordRates
 pub mod PriceFound

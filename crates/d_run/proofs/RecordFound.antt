@@ -1,11 +1,11 @@
 -- A record file has one record's terms, or one refusal.
 use Rattle.std.proofs.Common.{◌≡◌, ◌⊎◌, inl, inr, ℕ, zero, suc, ◌+◌, ◌<◌, List, [], ◌∷◌, length, get_or, Result, Ok, Err, refl, sym, ap, subst, ◌∙◌, arith}
 use Rattle.std.proofs.lemmas.List.{get_or_default}
-use Rattle.d_table.specs.Table.{row_at, IsRectangular, IsFirstOdd}
+use Rattle.d_table.specs.Table.{row_at, kept_rows, IsRectangular, IsFirstOdd}
 use Rattle.d_tariff.specs.Terms.{Terms}
-use Rattle.d_urdb.specs.Numbers.{Readings}
-use Rattle.d_urdb.proofs.ReadingFound.{one_reading}
-use Rattle.d_urdb.specs.Record.{IsOutcome, record_outcome}
+use Rattle.d_urdb.specs.Numbers.{CellReader}
+use Rattle.d_urdb.proofs.OneReader.{one_reader}
+use Rattle.d_urdb.specs.Record.{IsOutcome, label_name, record_outcome}
 use Rattle.d_urdb.specs.declared.fault.Refused.{Refused}
 use Rattle.d_urdb.specs.declared.rule.RuleChoice.{RuleChoice}
 use Rattle.d_run.specs.Record.{HasOutcome, IsRecord, IsRecordFault, rows_with_label}
@@ -14,6 +14,7 @@ use Rattle.d_run.proofs.OddRows.{no_odd}
 use Rattle.d_run.specs.Answer.{Answer, says, refused, RefusesRecord}
 use Rattle.d_run.specs.declared.verdict.Verdict.TheVariants.{Record}
 use Rattle.d_run.specs.declared.fault.Refusal.TheVariants.{RecordShape}
+use Rattle.d_run.proofs.RecordKept.{outcome_kept, text_kept}
 use Rattle.d_run.proofs.Deciding.{Decided, holds, fails, same_number}
 use Rattle.d_run.specs.Replies.{EndsBy}
 use Rattle.d_run.specs.declared.fault.Fault.{Fault}
@@ -21,15 +22,23 @@ use Rattle.d_run.proofs.StageFacts.{IsKnown, known_refused, known_value, ends_we
 
 -- a record's refusal, told of the rows with its label, ends the answer
 pub record_ends : (rows table : List (List (List ℕ))) (label text : List ℕ) (rule : RuleChoice) (why : Refused) (fault : Fault) → IsRectangular rows
-    → table ≡ rows_with_label text rows → text ≡ label → IsOutcome table text rule (Err why) → EndsBy (λ end. end ≡ says Record (record_text table why)) fault
+    → table ≡ kept_rows label_name text rows → text ≡ label → IsOutcome table text rule (Err why) → EndsBy (λ end. end ≡ says Record (record_text table why)) fault
     → EndsBy (RefusesRecord rows label rule) fault
 record_ends rows table label text rule why fault even kept same outcome ends =
     let P : List (List (List ℕ)) → Type 0 = λ t. IsOutcome t text rule (Err why) in
     let Q : List ℕ → Type 0 = λ l. IsOutcome (rows_with_label l rows) l rule (Err why) in
     let shown : record_text table why ≡ record_text (rows_with_label label rows) why =
-    ap (λ (t : List (List (List ℕ))). record_text t why) kept ∙ ap (λ (l : List ℕ). record_text (rows_with_label l rows) why) same in
+    ap (λ (t : List (List (List ℕ))). record_text t why) kept ∙ text_kept rows text why ∙ ap (λ (l : List ℕ). record_text (rows_with_label l rows) why) same in
     ends_weaker (λ end. end ≡ says Record (record_text table why)) (RefusesRecord rows label rule) fault
-    (λ end is. inr (why, record { rectangular = even; is = subst Q same (subst P kept outcome) }, is ∙ ap (λ (t : List ℕ). says Record t) shown)) ends
+    (λ end is. inr (why, record { rectangular = even; is = subst Q same (outcome_kept rows text rule (Err why) (subst P kept outcome)) }, is ∙ ap (λ (t : List ℕ). says Record t) shown)) ends
+
+-- a record's terms in the kept rows are those of the file
+pub record_is : (rows table : List (List (List ℕ))) (label text : List ℕ) (rule : RuleChoice) (terms : Terms) → IsRectangular rows
+    → table ≡ kept_rows label_name text rows → text ≡ label → IsOutcome table text rule (Ok terms) → IsRecord rows label rule terms
+record_is rows table label text rule terms even kept same outcome =
+    let P : List (List (List ℕ)) → Type 0 = λ t. IsOutcome t text rule (Ok terms) in
+    let Q : List ℕ → Type 0 = λ l. IsOutcome (rows_with_label l rows) l rule (Ok terms) in
+    record { rectangular = even; is = subst Q same (outcome_kept rows text rule (Ok terms) (subst P kept outcome)) }
 
 -- two rows that are first odd are one
 odd_same : (rows : List (List (List ℕ))) (a b : ℕ) → IsFirstOdd rows a → IsFirstOdd rows b → a ≡ b
@@ -81,9 +90,9 @@ outcome_same : (rows : List (List (List ℕ))) (label : List ℕ) (rule : RuleCh
     → HasOutcome rows label rule other → one ≡ other
 outcome_same rows label rule one other is is_other = known one is ∙ sym (known other is_other)
   where
-    known : (outcome : Result Terms Refused) → HasOutcome rows label rule outcome → outcome ≡ record_outcome one_reading.readings (rows_with_label label rows) label rule
+    known : (outcome : Result Terms Refused) → HasOutcome rows label rule outcome → outcome ≡ record_outcome one_reader.readings (rows_with_label label rows) label rule
     known outcome has =
-        has.is.2 ∙ ap (λ (readings : Readings). record_outcome readings (rows_with_label label rows) label rule) (one_reading.only has.is.0 has.is.1)
+        has.is.2 ∙ ap (λ (reader : CellReader). record_outcome readings (rows_with_label label rows) label rule) (one_reader.only has.is.0 has.is.1)
 
 -- a record file has one record's terms, or one refusal
 pub record_known : (rows : List (List (List ℕ))) (label : List ℕ) (rule : RuleChoice) → IsKnown (RefusesRecord rows label rule) (IsRecord rows label rule)
@@ -117,7 +126,7 @@ record_known rows label rule = by_shape (even_or_odd rows)
         (λ terms means. not_both terms fault means is)
 
     by_shape : IsRectangular rows ⊎ ((row : ℕ) × IsFirstOdd rows row) → IsKnown (RefusesRecord rows label rule) (IsRecord rows label rule)
-    by_shape (inl even) = by_outcome (record_outcome one_reading.readings (rows_with_label label rows) label rule)
-        (record { rectangular = even; is = (one_reading.readings, one_reading.are, refl) })
+    by_shape (inl even) = by_outcome (record_outcome one_reader.readings (rows_with_label label rows) label rule)
+        (record { rectangular = even; is = (one_reader.readings, one_reader.are, refl) })
     by_shape (inr odd) = known_refused (refused (RecordShape odd.0)) (inl (odd.0, odd.1, refl)) (odd_only odd.0 odd.1)
         (λ terms means. no_odd rows odd.0 means.rectangular odd.1)

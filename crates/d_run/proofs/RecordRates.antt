@@ -15,12 +15,12 @@ use Rattle.d_tariff.specs.declared.period.Period.{Period}
 use Rattle.d_tariff.specs.Terms.{Terms, period_at}
 use Rattle.d_urdb.specs.declared.fault.Refused.{Refused}
 use Rattle.d_urdb.specs.declared.rule.RuleChoice.{RuleChoice}
-use Rattle.d_urdb.specs.declared.names.Structure.{Structure}
-use Rattle.d_urdb.specs.declared.names.Structure.TheVariants.{Energy}
-use Rattle.d_urdb.specs.declared.names.Part.TheVariants.{Rate, Adj}
-use Rattle.d_urdb.specs.Numbers.{Readings, AreReadings, IsNumber}
+use Rattle.d_columns.specs.declared.names.Structure.{Structure}
+use Rattle.d_columns.specs.declared.names.Structure.TheVariants.{Energy}
+use Rattle.d_columns.specs.declared.names.Part.TheVariants.{Rate, Adj}
+use Rattle.d_urdb.specs.Numbers.{CellReader, IsCellReader, IsNumber}
 use Rattle.d_urdb.specs.Refusals.{first_of}
-use Rattle.d_urdb.specs.Tiers.{Row, part_cell, has_tier}
+use Rattle.d_columns.specs.Tiers.{Row, part_cell, has_tier}
 use Rattle.d_urdb.specs.Periods.{price_in, price_of, number_or_0, tiers_to, energy_period, energy_periods}
 use Rattle.d_urdb.specs.Record.{record_outcome, column_outcome, one_row_outcome, row_outcome, row_terms, row_refusals, refused_or, labelled_rows, label_name}
 use Rattle.d_run.specs.Record.{IsRecord, IsOnePrice, rows_with_label, flat_period}
@@ -39,20 +39,20 @@ number_within limit cell (Err fault) is = (omega (arith, ints), omega (arith, in
 sum_within : (a b : ℤ) → IsWithin (1000 * 10 ^ 18) a → IsWithin (1000 * 10 ^ 18) b → IsWithin (2 * 10 ^ 21) (a +ℤ b)
 sum_within a b one other = (omega (arith, ints, one.0, other.0), omega (arith, ints, one.1, other.1))
 
-module _ (readings : Readings) (are : AreReadings readings) (row : Row) where
+module _ (reader : CellReader) (are : IsCellReader reader) (row : Row) where
   -- a tier's price is in range
-  price_within : (structure : Structure) (period tier : ℕ) → IsWithin (2 * 10 ^ 21) (price_of readings row structure period tier)
+  price_within : (structure : Structure) (period tier : ℕ) → IsWithin (2 * 10 ^ 21) (price_of reader row structure period tier)
   price_within structure period tier =
-      sum_within (price_in readings (part_cell row structure period tier Rate)) (price_in readings (part_cell row structure period tier Adj))
+      sum_within (price_in reader (part_cell row structure period tier Rate)) (price_in reader (part_cell row structure period tier Adj))
       (number_within 1000 (part_cell row structure period tier Rate) _ (are.number_is 1000 (part_cell row structure period tier Rate)))
       (number_within 1000 (part_cell row structure period tier Adj) _ (are.number_is 1000 (part_cell row structure period tier Adj)))
 
   -- so are those of all tiers
-  tiers_within : (structure : Structure) (period last : ℕ) → AllByRecursion IsFairTier (tiers_to readings row structure period last)
+  tiers_within : (structure : Structure) (period last : ℕ) → AllByRecursion IsFairTier (tiers_to reader row structure period last)
   unfolding tiers_to
   tiers_within structure period zero = (price_within structure period 0, tt)
   tiers_within structure period (suc last) = cond_both (has_tier row structure period (suc last)) _ _ (AllByRecursion IsFairTier)
-      (λ there. more _ (price_of readings row structure period (suc last)) (price_within structure period (suc last)) (tiers_to readings row structure period last) (tiers_within structure period last))
+      (λ there. more _ (price_of reader row structure period (suc last)) (price_within structure period (suc last)) (tiers_to reader row structure period last) (tiers_within structure period last))
       (λ absent. tiers_within structure period last)
     where
       more : (end price : ℤ) → IsWithin (2 * 10 ^ 21) price → (tiers : List Tier) → AllByRecursion IsFairTier tiers → AllByRecursion IsFairTier (with_tier end price tiers)
@@ -61,7 +61,7 @@ module _ (readings : Readings) (are : AreReadings readings) (row : Row) where
       more end price fair (tier ∷ next ∷ rest) are_fair = (are_fair.0, more end price fair (next ∷ rest) are_fair.1)
 
   -- a period that is there has fair tiers
-  period_fair : (number : ℕ) (period : Period) → energy_period readings row number ≡ Some period → AllByRecursion IsFairTier period.tiers
+  period_fair : (number : ℕ) (period : Period) → energy_period reader row number ≡ Some period → AllByRecursion IsFairTier period.tiers
   period_fair number period same =
       let is = cond_some (has_tier row Energy number 0) _ period same in
       subst (λ (p : Period). AllByRecursion IsFairTier p.tiers) is.1 (tiers_within Energy number 15)
@@ -73,24 +73,24 @@ made_of f (number ∷ rest) zero x same = (number, same)
 made_of f (number ∷ rest) (suc place) x same = made_of f rest place x same
 
 -- terms that a record has are those of a row
-row_of : (readings : Readings) (rows : List (List (List ℕ))) (label : List ℕ) (rule : RuleChoice) (terms : Terms) → Ok terms ≡ record_outcome readings rows label rule
-    → (row : Row) × (terms ≡ row_terms readings row rule)
+row_of : (reader : CellReader) (rows : List (List (List ℕ))) (label : List ℕ) (rule : RuleChoice) (terms : Terms) → Ok terms ≡ record_outcome reader rows label rule
+    → (row : Row) × (terms ≡ row_terms reader row rule)
 unfolding row_outcome
-row_of readings rows label rule terms = by_column (column_of label_name (row_at rows 0))
+row_of reader rows label rule terms = by_column (column_of label_name (row_at rows 0))
   where
-    by_refusal : (row : Row) (refusal : Option Refused) → Ok terms ≡ refused_or refusal (row_terms readings row rule) → (row : Row) × (terms ≡ row_terms readings row rule)
-    by_refusal row None same = let both : ◌≡◌ {A = Result Terms Refused} (Ok terms) (Ok (row_terms readings row rule)) = same in (row, cc)
+    by_refusal : (row : Row) (refusal : Option Refused) → Ok terms ≡ refused_or refusal (row_terms reader row rule) → (row : Row) × (terms ≡ row_terms reader row rule)
+    by_refusal row None same = let both : ◌≡◌ {A = Result Terms Refused} (Ok terms) (Ok (row_terms reader row rule)) = same in (row, cc)
     by_refusal row (Some fault) same = let both : ◌≡◌ {A = Result Terms Refused} (Ok terms) (Err fault) = same in absurd (cc)
 
-    by_row : (row : Row) → Ok terms ≡ row_outcome readings row rule → (row : Row) × (terms ≡ row_terms readings row rule)
-    by_row row same = by_refusal row (first_of (row_refusals readings row rule)) same
+    by_row : (row : Row) → Ok terms ≡ row_outcome reader row rule → (row : Row) × (terms ≡ row_terms reader row rule)
+    by_row row same = by_refusal row (first_of (row_refusals reader row rule)) same
 
-    by_rows : (header : List (List ℕ)) (cells : List (List (List ℕ))) → Ok terms ≡ one_row_outcome readings header rule cells → (row : Row) × (terms ≡ row_terms readings row rule)
+    by_rows : (header : List (List ℕ)) (cells : List (List (List ℕ))) → Ok terms ≡ one_row_outcome reader header rule cells → (row : Row) × (terms ≡ row_terms reader row rule)
     by_rows header [] same = absurd (cc)
     by_rows header (one ∷ []) same = by_row (record { header = header; cells = one }) same
     by_rows header (one ∷ other ∷ rest) same = absurd (cc)
 
-    by_column : (column : Option ℕ) → Ok terms ≡ column_outcome readings rows label rule column → (row : Row) × (terms ≡ row_terms readings row rule)
+    by_column : (column : Option ℕ) → Ok terms ≡ column_outcome reader rows label rule column → (row : Row) × (terms ≡ row_terms reader row rule)
     by_column None same = absurd (cc)
     by_column (Some column) same = by_rows (row_at rows 0) (labelled_rows rows label) same
 

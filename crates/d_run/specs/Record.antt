@@ -1,7 +1,7 @@
 -- The record of a label in a record file, and the one price of energy that it may have in a month that is billed by nothing else.
 use Rattle.std.specs.Prelude.{◌≡◌, ℕ, ◌-◌, ◌<◌, ℤ, pos, List, [], ◌∷◌, length, Some, None, Result, Ok, Err, slice_index}
 use Rattle.std.specs.Option.{ForSome}
-use Rattle.d_table.specs.Table.{IsRectangular, kept_rows}
+use Rattle.d_table.specs.Table.{IsRectangular, rows_where}
 use Rattle.d_cal.specs.Calendar.{IsDayOf}
 use Rattle.d_cal.specs.Schedules.{period_of}
 use Rattle.d_tier.specs.declared.tier.Tier.{Tier}
@@ -14,7 +14,7 @@ use Rattle.d_urdb.specs.declared.rule.RuleChoice.{RuleChoice}
 
 -- the header and the rows of this label
 abbrev pub rows_with_label : List ℕ → List (List (List ℕ)) → List (List (List ℕ))
-rows_with_label label rows = kept_rows label_name label rows
+rows_with_label label rows = rows_where label_name label rows
 
 -- the rows have one length, and this is the outcome of the record with this label
 pub record HasOutcome (rows : List (List (List ℕ))) (label : List ℕ) (rule : RuleChoice) (outcome : Result Terms Refused) : Type 0 where

@@ -2,20 +2,9 @@
 use Rattle.std.specs.Prelude.{ℕ, nat_lt, List, [], ◌∷◌, ◌++◌, length, slice_index_or, codes, if◌then◌else◌}
 use Rattle.std.specs.Fmt.{decimal}
 use Rattle.d_table.specs.Table.{row_at, cell_in}
+use Rattle.d_urdb.specs.RefusalNames.{refusal_name}
 use Rattle.d_urdb.specs.declared.fault.Refused.{Refused}
 use Rattle.d_run.specs.Text.{line, shown, behind_blank}
-
--- the names of the refusals by their numbers, from 0
-abbrev pub refusal_names : List (List ℕ)
-refusal_names =
-    codes "Shape" ∷ codes "NoLabel" ∷ codes "LabelTwice" ∷ codes "NoColumn" ∷ codes "Decimal" ∷ codes "Grid" ∷ codes "EnergyMissing"
-    ∷ codes "TierHole" ∷ codes "TierOrder" ∷ codes "TierUnit" ∷ codes "SellTiers" ∷ codes "DemandFalls" ∷ codes "DemandUnit"
-    ∷ codes "NetMetering" ∷ codes "BuyAllSellAll" ∷ codes "HourlyRule" ∷ codes "Coincident" ∷ codes "Reactive" ∷ codes "AnnualMinimum"
-    ∷ codes "FuelAdjustment" ∷ codes "ChargeUnit" ∷ codes "RuleUnknown" ∷ codes "Fraction" ∷ codes "NotYet" ∷ []
-
--- the name of a refusal; none for a number that no refusal has
-abbrev pub refusal_name : ℕ → List ℕ
-refusal_name number = slice_index_or refusal_names number []
 
 -- the name of a column as it is shown; `none` where there is no such column
 abbrev pub column_text : List (List ℕ) → ℕ → List ℕ

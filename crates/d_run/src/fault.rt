@@ -12,6 +12,7 @@ use d_model::ScheduleFault;
 use d_num::NoMemory;
 use d_table::TableFault;
 use std::alloc::{AllocError, AllocFailed, Global};
+use thiserror::Error;
 
 /// What a reader of one file answers in place of its value.
 #[derive(Clone, Copy)]
@@ -124,13 +125,16 @@ fn schedule_fault_text(alloc: Global, fault: ScheduleFault) -> Result<String, Al
 }
 
 /// Why the program stops before it has an answer of its own.
-#[derive(Drop)]
+#[derive(Debug, Drop, Error)]
 pub enum Fault {
     /// The words or a file are refused, and the reply says so.
+    #[error("refused")]
     Refused(Reply),
     /// A call on the desk failed.
+    #[error("the desk failed")]
     Failed,
     /// Memory was wanted and there was none.
+    #[error("out of memory")]
     Memory,
 }
 

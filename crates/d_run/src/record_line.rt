@@ -4,12 +4,13 @@ ghost use Rattle.std.specs.Prelude.{◌≡◌, ◌∷◌, ◌++◌, IfOk, OnOk, 
 ghost use Rattle.std.specs.Fmt.{decimal};
 ghost use Rattle.d_table.specs.Table.{row_at, cell_in};
 ghost use Rattle.d_run.specs.Text.{behind_blank};
-ghost use Rattle.d_run.specs.RecordText.{record_text, refusal_name, column_text};
+ghost use Rattle.d_run.specs.RecordText.{record_text, column_text};
+ghost use Rattle.d_urdb.specs.RefusalNames.{refusal_name};
 
 use crate::lines::{put_behind_blank, put_shown};
 use d_num::NoMemory;
 use d_table::Table;
-use d_urdb::Refused;
+use d_urdb::{Refused, refusal_name};
 use std::alloc::{AllocError, Global};
 
 /// The line of a record's refusal: its number and name, the column that it names, its detail, and the cell of the first data row in
@@ -63,38 +64,5 @@ fn put_cell(text: &mut Vec<u8>, table: &Table, column: usize) -> Result<(), NoMe
         put_behind_blank(text, table.cell(0, column))
     } else {
         Ok(())
-    }
-}
-
-/// The name of a refusal, or no text for a number that no refusal has.
-fn refusal_name(number: u8) -> &'static str
-    ensures { result.now ≡ refusal_name number }
-{
-    match number {
-        0 => "Shape",
-        1 => "NoLabel",
-        2 => "LabelTwice",
-        3 => "NoColumn",
-        4 => "Decimal",
-        5 => "Grid",
-        6 => "EnergyMissing",
-        7 => "TierHole",
-        8 => "TierOrder",
-        9 => "TierUnit",
-        10 => "SellTiers",
-        11 => "DemandFalls",
-        12 => "DemandUnit",
-        13 => "NetMetering",
-        14 => "BuyAllSellAll",
-        15 => "HourlyRule",
-        16 => "Coincident",
-        17 => "Reactive",
-        18 => "AnnualMinimum",
-        19 => "FuelAdjustment",
-        20 => "ChargeUnit",
-        21 => "RuleUnknown",
-        22 => "Fraction",
-        23 => "NotYet",
-        _ => "",
     }
 }

@@ -3,7 +3,7 @@
 use crate::verdict::Verdict;
 
 /// A verdict and the text that is printed with it.
-#[derive(Drop)]
+#[derive(Debug, Drop)]
 pub struct Reply {
     /// How the run ends where the text could be printed.
     pub verdict: Verdict,

@@ -4,7 +4,7 @@ ghost use Rattle.std.specs.Prelude.{◌≡◌};
 ghost use Rattle.d_run.specs.Runs.{status_number};
 
 /// What the program found: the ways in which a run that met no fault of the desk and no want of memory can end.
-#[derive(Clone, Copy)]
+#[derive(Clone, Copy, Debug)]
 pub enum Verdict {
     /// A least plan is printed.
     Done,

@@ -2,7 +2,8 @@ use Rattle.std.proofs.Common.{◌++◌, ◌∙◌, List, ℕ, ap, codes}
 use Rattle.std.specs.Fmt.{decimal}
 use Rattle.d_table.specs.Table.{row_at, cell_in}
 use Rattle.d_run.specs.Text.{behind_blank}
-use Rattle.d_run.specs.RecordText.{refusal_name, column_text}
+use Rattle.d_urdb.specs.RefusalNames.{refusal_name}
+use Rattle.d_run.specs.RecordText.{column_text}
 use Rattle.d_run.proofs.LineFacts.{record_parts}
 use Rattle.d_run.proofs.record_line.record_line.Goals as goal
 
