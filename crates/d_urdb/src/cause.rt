@@ -35,7 +35,7 @@ pub(crate) enum Cause {
     NetMetering,
     /// Buying all and selling all.
     BuyAllSellAll,
-    /// Kept for records that were billed hour by hour before that was read; none is refused for it.
+    /// Net billing hour by hour, which is planned: no record is refused for it any more.
     HourlyRule,
     /// A price of coincident demand.
     Coincident,
