@@ -159,11 +159,3 @@ all_same count place x = elim (cases_lt place count) [
   | inl within ↦ get_or-replicate count place x x within
   | inr past ↦ get_or-eq_default (replicate count x) x (omega (arith, length-replicate count x))
 ]
-
--- a cell of no bytes isn't filled
-pub empty_cell : (cell : List ℕ) → true ≡ (length cell == 0) → is_filled cell ≡ false
-empty_cell [] none = refl
-empty_cell (byte ∷ bytes) none = absurd (some (length bytes) none)
-  where
-    some : (n : ℕ) → true ≡ (suc n == 0) → ⊥
-    some n none = grind (arith, nat_tests)

@@ -1,3 +1,4 @@
+pub mod CellFacts
 mod TextFacts
 mod NumberFacts
 mod PeriodFacts

@@ -33,11 +33,6 @@ not_before xs ys a b xn yn x_is y_is below other =
         let above : n < m = omega arith in
         grind (arith, nat_tests)
 
--- a cell of some bytes is filled
-pub filled_cell : (cell : List ℕ) → false ≡ (length cell == 0) → is_filled cell ≡ true
-filled_cell [] some = cc
-filled_cell (byte ∷ bytes) some = refl
-
 -- what a column of a tier past the last says
 pub record Says (row : Row) (structure : Structure) (period column : ℕ) (cell : PartCell) : Type 0 where
   pub has : has_part structure cell.part ≡ true

@@ -14,25 +14,19 @@ use Rattle.d_urdb.specs.Months.{item_cell, item_column, item_refusal, list_refus
 use Rattle.d_urdb.specs.Numbers.{CellReader, IsCellReader, IsList}
 use Rattle.d_urdb.specs.Refusals.{first_of, refusal, detail_of}
 use Rattle.d_columns.specs.Tiers.{Row, named_cell, is_filled}
+use Rattle.d_columns.proofs.CellFacts.{filled_cell}
 use Rattle.d_urdb.proofs.HourFacts.{blank}
 use Rattle.d_urdb.proofs.ReadOnce.{spans_once}
 use Rattle.d_urdb.specs.declared.cause.Cause.TheVariants as cause
 
--- whether a cell is filled, by its length
-pub filled_is : (cell : List ℕ) → false ≡ (length cell == 0) → is_filled cell ≡ true
-filled_is [] is = absurd (let e : false ≡ true = is in cc)
-filled_is (byte ∷ bytes) is = refl
-
-pub empty_is : (cell : List ℕ) → true ≡ (length cell == 0) → is_filled cell ≡ false
-empty_is cell is = ap is_filled (blank cell is)
-
+-- whether the list is in one cell, by its length
 pub not_listed : (row : Row) (list : MonthList) (cell : List ℕ) → cell ≡ named_cell row (list_name list) → true ≡ (length cell == 0)
     → is_listed row list ≡ false
 not_listed row list cell here is = ap is_filled (sym here ∙ blank cell is)
 
 pub listed_is : (row : Row) (list : MonthList) (cell : List ℕ) → cell ≡ named_cell row (list_name list) → false ≡ (length cell == 0)
     → is_listed row list ≡ true
-listed_is row list cell here is = ap is_filled (sym here) ∙ filled_is cell is
+listed_is row list cell here is = ap is_filled (sym here) ∙ filled_cell cell is
 
 -- the one cell is split in one way
 pub spans_read : (row : Row) (list : MonthList) (cell : List ℕ) (result : Result (List Span) ℕ) → cell ≡ named_cell row (list_name list) → IsList cell result

@@ -30,6 +30,12 @@ rule_name = codes "dgrules"
 abbrev pub says_rule : Row → List ℕ → Bool
 says_rule row text = bytes_eq (str_to_ascii_lowercase (named_cell row rule_name)) text
 
+-- a rule is said, and none of net billing
+abbrev pub says_unknown_rule : Row → Bool
+says_unknown_rule row =
+    is_filled (named_cell row rule_name)
+    && not (says_rule row (codes "net billing instantaneous") || says_rule row (codes "net billing hourly"))
+
 -- whether energy is settled hour by hour
 abbrev pub is_hourly : Row → RuleChoice → Bool
 is_hourly row NetBilling = false
@@ -45,8 +51,7 @@ rule_refusals row NetBilling = []
 rule_refusals row AsRecorded =
     when (says_rule row (codes "net metering")) (rule_refusal row cause.NetMetering)
     ∷ when (says_rule row (codes "buy all sell all")) (rule_refusal row cause.BuyAllSellAll)
-    ∷ when (is_filled (named_cell row rule_name) && not (says_rule row (codes "net billing instantaneous") || says_rule row (codes "net billing hourly")))
-    (rule_refusal row cause.RuleUnknown)
+    ∷ when (says_unknown_rule row) (rule_refusal row cause.RuleUnknown)
     ∷ []
 
 -- the refusals of the rule of billing, of the energy periods and of their hours, in order

@@ -98,7 +98,7 @@ fn is_year(unit: ChargeUnit) -> bool
 }
 
 /// The unit that a text says, or None where it says another. No text says the month.
-#[tactic(auto, unfolding(crate::specs::Charges::unit_in), using(crate::proofs::MonthFacts::filled_is, crate::proofs::MonthFacts::empty_is))]
+#[tactic(auto, unfolding(crate::specs::Charges::unit_in), using(d_columns::proofs::CellFacts::filled_cell, d_columns::proofs::CellFacts::empty_cell))]
 fn read_unit(text: &[u8]) -> Option<ChargeUnit>
     ensures { result ≡ spec.unit_in text.now }
 {

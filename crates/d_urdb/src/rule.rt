@@ -59,8 +59,7 @@ impl<'a> Record<'a> {
 
     /// Whether the record says a rule, and none of net billing.
     fn says_unknown_rule(&self) -> bool
-        ensures { result ≡ (is_filled (named_cell (row_of self.now) spec.rule_name)
-            && not (spec.says_rule (row_of self.now) (codes "net billing instantaneous") || spec.says_rule (row_of self.now) (codes "net billing hourly"))) }
+        ensures { result ≡ spec.says_unknown_rule (row_of self.now) }
     {
         !self.cells.named_cell(b"dgrules").is_empty()
             && !self.says_rule(b"net billing instantaneous")

@@ -6,7 +6,8 @@ use Rattle.d_columns.specs.Tiers.{data_row, has_part}
 use Rattle.d_columns.proofs.TextFacts.{never}
 use Rattle.d_columns.proofs.NameFacts.{is_name}
 use Rattle.d_columns.proofs.IndexFacts.{text_at, Finds, is_read, found_same}
-use Rattle.d_columns.proofs.PastFacts.{past_says, past_found, filled_cell}
+use Rattle.d_columns.proofs.PastFacts.{past_says, past_found}
+use Rattle.d_columns.proofs.CellFacts.{filled_cell}
 use Rattle.d_columns.proofs.past.past_cell.Goals as goal
 
 pub returns-in_default : goal.returns-in_default

@@ -4,7 +4,8 @@ use Rattle.d_columns.specs.declared.names.Part.{Part}
 use Rattle.d_columns.specs.Names.{number_text, IsTierName}
 use Rattle.d_columns.specs.Tiers.{data_row}
 use Rattle.d_columns.proofs.NameFacts.{is_name}
-use Rattle.d_columns.proofs.IndexFacts.{text_at, Finds, is_read, found_same, found_there, index_same, index_column, index_past, index_empty, empty_cell}
+use Rattle.d_columns.proofs.IndexFacts.{text_at, Finds, is_read, found_same, found_there, index_same, index_column, index_past, index_empty}
+use Rattle.d_columns.proofs.CellFacts.{empty_cell}
 use Rattle.d_columns.proofs.index.TierIndex.add_column.Goals as goal
 
 pub returns-in_default : goal.returns-in_default
