@@ -26,6 +26,7 @@ is_column column (Some place) = place == column
 abbrev pub has_name : Row → ℕ → List ℕ → Bool
 has_name row column name = is_column column (column_of name row.header)
 
+-- the structures whose tiers have columns
 abbrev pub structures : List Structure
 structures = Energy ∷ Demand ∷ FlatDemand ∷ Coincident ∷ []
 

@@ -32,6 +32,7 @@ part_refusal reader row period tier part =
     when (not (int_eq (part_price reader row Coincident period tier part) (pos 0)))
     (refusal row.header cause.Coincident (part_column row Coincident period tier part) 0)
 
+-- 16: one of the prices of a tier of coincident demand isn't 0
 abbrev pub coincident_price_refusals : CellReader → Row → ℕ → ℕ → List (Option Refused)
 coincident_price_refusals reader row period tier =
     part_refusal reader row period tier Rate ∷ part_refusal reader row period tier Adj ∷ []

@@ -18,19 +18,23 @@ use Rattle.d_urdb.specs.declared.cause.Cause.TheVariants as cause
 abbrev pub charge_limit : ℕ
 charge_limit = 10 ^ 9
 
--- the columns of the charges and of their units
+-- the column of the fixed charge
 abbrev pub fixed_name : List ℕ
 fixed_name = codes "fixedchargefirstmeter"
 
+-- the column of the fixed charge's unit
 abbrev pub fixed_unit_name : List ℕ
 fixed_unit_name = codes "fixedchargeunits"
 
+-- the column of the minimum
 abbrev pub minimum_name : List ℕ
 minimum_name = codes "mincharge"
 
+-- the column of the minimum's unit
 abbrev pub minimum_unit_name : List ℕ
 minimum_unit_name = codes "minchargeunits"
 
+-- the column of the minimum of a year's bills
 abbrev pub annual_name : List ℕ
 annual_name = codes "annualmincharge"
 

@@ -14,16 +14,19 @@ use Rattle.d_urdb.specs.Refusals.{refusal, when}
 use Rattle.d_columns.specs.Tiers.{Row, named_cell, has_tier, is_filled}
 use Rattle.d_urdb.specs.declared.cause.Cause.TheVariants as cause
 
--- the columns of the hours, and of the units
+-- the column of the demand periods of weekday hours
 abbrev pub demand_weekday_name : List ℕ
 demand_weekday_name = codes "demandweekdayschedule"
 
+-- the column of the demand periods of weekend hours
 abbrev pub demand_weekend_name : List ℕ
 demand_weekend_name = codes "demandweekendschedule"
 
+-- the column of the unit of demand
 abbrev pub demand_unit_name : List ℕ
 demand_unit_name = codes "demandrateunit"
 
+-- the column of the unit of flat demand
 abbrev pub flat_unit_name : List ℕ
 flat_unit_name = codes "flatdemandunit"
 

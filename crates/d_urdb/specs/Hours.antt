@@ -9,10 +9,11 @@ use Rattle.d_urdb.specs.Refusals.{each, refusal, when}
 use Rattle.d_columns.specs.Tiers.{Row, named_cell, has_tier}
 use Rattle.d_urdb.specs.declared.cause.Cause.TheVariants as cause
 
--- the columns of the hours of weekdays and of weekends
+-- the column of the energy periods of weekday hours
 abbrev pub weekday_name : List ℕ
 weekday_name = codes "energyweekdayschedule"
 
+-- the column of the energy periods of weekend hours
 abbrev pub weekend_name : List ℕ
 weekend_name = codes "energyweekendschedule"
 
@@ -30,6 +31,7 @@ abbrev pub grid_fault : Row → List ℕ → Result (List (List ℕ)) ℕ → Op
 grid_fault row name (Ok rows) = None
 grid_fault row name (Err place) = Some (refusal row.header cause.Grid (column_of name row.header) place)
 
+-- 5: the schedule in the column of that name is no grid
 abbrev pub grid_refusal : CellReader → Row → List ℕ → Option Refused
 grid_refusal reader row name = grid_fault row name (reader.hours (named_cell row name))
 

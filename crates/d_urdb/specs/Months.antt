@@ -42,6 +42,7 @@ abbrev pub split_fault : Row → MonthList → Result (List Span) ℕ → Option
 split_fault row list (Ok spans) = None
 split_fault row list (Err place) = Some (refusal row.header cause.Grid (column_of (list_name list) row.header) place)
 
+-- 5: the list's own cell is filled and is no list of twelve items
 abbrev pub list_refusal : CellReader → Row → MonthList → Option Refused
 list_refusal reader row list =
     if is_listed row list then split_fault row list (reader.spans (named_cell row (list_name list))) else None

@@ -30,6 +30,7 @@ abbrev pub fraction_refusal : CellReader → Row → ℕ → Option Refused
 fraction_refusal reader row month =
     when (int_lt (month_number reader row month) (pos 0)) (refusal row.header cause.Fraction (item_column row Ratchets month) 0)
 
+-- 22: the look-back is below 0
 abbrev pub lookback_refusal : CellReader → Row → Option Refused
 lookback_refusal reader row =
     when (int_lt (named_number reader row fraction_limit lookback_name) (pos 0)) (refusal row.header cause.Fraction (column_of lookback_name row.header) 0)
