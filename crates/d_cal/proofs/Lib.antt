@@ -1,1 +1,1 @@
-pub mod WeekdayFacts
+mod WeekdayFacts

@@ -1,5 +1,5 @@
 pub mod Fronts
 pub mod StageLaws
-pub mod Loading
-pub mod Storing
-pub mod WriteLaws
+mod Loading
+mod Storing
+mod WriteLaws

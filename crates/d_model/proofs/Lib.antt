@@ -1,14 +1,14 @@
-pub mod FlowFacts
-pub mod RangeFacts
+mod FlowFacts
+mod RangeFacts
 pub mod RuleFacts
 pub mod WalkFacts
-pub mod MeteredFacts
+mod MeteredFacts
 pub mod Laws
-pub mod Moments
-pub mod Digits
-pub mod StartParts
-pub mod ModeNames
-pub mod ScheduleRows
+mod Moments
+mod Digits
+mod StartParts
+mod ModeNames
+mod ScheduleRows
 pub mod Deciding
-pub mod ScheduleLaws
+mod ScheduleLaws
 pub mod ScheduleFound

@@ -1,8 +1,8 @@
 pub mod CostLemmas
 pub mod WayLemmas
-pub mod StepLemmas
-pub mod RowLemmas
-pub mod FirstLemmas
-pub mod LowerLemmas
+mod StepLemmas
+mod RowLemmas
+mod FirstLemmas
+mod LowerLemmas
 pub mod ExistsLemmas
-pub mod Potentials
+mod Potentials

@@ -1,37 +1,37 @@
-pub mod PrintFacts
-pub mod ShownCells
-pub mod LineFacts
-pub mod DigitTexts
-pub mod MonthTexts
-pub mod ReadingsFacts
-pub mod PriceLaws
-pub mod PlanArcs
-pub mod PlanSteps
-pub mod FeasibleWays
-pub mod LeastWays
-pub mod StageFacts
-pub mod FileLaws
-pub mod OneAnswer
-pub mod RequestAnswers
-pub mod RunLaws
-pub mod EntryFacts
-pub mod NoValues
-pub mod PlanTexts
-pub mod PlanLevels
-pub mod Deciding
-pub mod DecimalFound
-pub mod WordPlaces
-pub mod RequestFound
-pub mod RecordKept
-pub mod RecordFound
-pub mod RecordRates
-pub mod PriceFound
-pub mod PriceStages
-pub mod MonthFound
-pub mod EntryFound
-pub mod BatteryFound
-pub mod DraftFacts
-pub mod EntryLists
-pub mod OddRows
-pub mod FilesKnown
-pub mod ScheduleBreaks
+mod PrintFacts
+mod ShownCells
+mod LineFacts
+mod DigitTexts
+mod MonthTexts
+mod ReadingsFacts
+mod PriceLaws
+mod PlanArcs
+mod PlanSteps
+mod FeasibleWays
+mod LeastWays
+mod StageFacts
+mod FileLaws
+mod OneAnswer
+mod RequestAnswers
+mod RunLaws
+mod EntryFacts
+mod NoValues
+mod PlanTexts
+mod PlanLevels
+mod Deciding
+mod DecimalFound
+mod WordPlaces
+mod RequestFound
+mod RecordKept
+mod RecordFound
+mod RecordRates
+mod PriceFound
+mod PriceStages
+mod MonthFound
+mod EntryFound
+mod BatteryFound
+mod DraftFacts
+mod EntryLists
+mod OddRows
+mod FilesKnown
+mod ScheduleBreaks

@@ -1,2 +1,2 @@
-pub mod EntryFacts
-pub mod HourFacts
+mod EntryFacts
+mod HourFacts

@@ -1,20 +1,20 @@
-pub mod Decimals
-pub mod Blanks
-pub mod Rooms
-pub mod ReadFacts
-pub mod PhaseFacts
-pub mod FaultFacts
+mod Decimals
+mod Blanks
+mod Rooms
+mod ReadFacts
+mod PhaseFacts
+mod FaultFacts
 pub mod SizeFacts
 pub mod OneReading
-pub mod TextDecided
+mod TextDecided
 pub mod DecimalLaws
 pub mod FaultLaws
-pub mod ScanFacts
-pub mod ReaderFacts
-pub mod LevelReads
-pub mod LevelSays
-pub mod LevelFacts
-pub mod PartFacts
+mod ScanFacts
+mod ReaderFacts
+mod LevelReads
+mod LevelSays
+mod LevelFacts
+mod PartFacts
 pub mod GridFacts
 pub mod GridLaws
 pub mod OutcomeLaws

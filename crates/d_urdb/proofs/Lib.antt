@@ -1,29 +1,29 @@
-pub mod HourFacts
-pub mod RowChecks
-pub mod TermFacts
-pub mod OutcomeFacts
-pub mod ReadOnce
-pub mod NumberReads
-pub mod RefusalOrder
-pub mod CheckFacts
+mod HourFacts
+mod RowChecks
+mod TermFacts
+mod OutcomeFacts
+mod ReadOnce
+mod NumberReads
+mod RefusalOrder
+mod CheckFacts
 pub mod OneReader
-pub mod PeriodChecks
-pub mod TierRise
-pub mod LabelFacts
-pub mod FirstFound
-pub mod EnergyFacts
-pub mod EachPeriod
-pub mod DemandFacts
-pub mod NamedFacts
-pub mod ChargeFacts
-pub mod CoincidentFacts
-pub mod MonthFacts
-pub mod PeriodRead
-pub mod MonthLoops
-pub mod FlatFacts
-pub mod KeptNumbers
-pub mod RatchetFacts
-pub mod FuelFacts
-pub mod EmptyPeriod
-pub mod KeptColumns
-pub mod PeriodLaw
+mod PeriodChecks
+mod TierRise
+mod LabelFacts
+mod FirstFound
+mod EnergyFacts
+mod EachPeriod
+mod DemandFacts
+mod NamedFacts
+mod ChargeFacts
+mod CoincidentFacts
+mod MonthFacts
+mod PeriodRead
+mod MonthLoops
+mod FlatFacts
+mod KeptNumbers
+mod RatchetFacts
+mod FuelFacts
+mod EmptyPeriod
+mod KeptColumns
+mod PeriodLaw

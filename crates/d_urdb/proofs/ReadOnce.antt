@@ -8,50 +8,13 @@ use Rattle.d_text.specs.Grid.{IsGridOf, IsGridText, IsListText, IsRefusedAt}
 use Rattle.d_text.specs.declared.decimal.DecimalFault.{DecimalFault}
 use Rattle.d_text.specs.declared.decimal.DecimalFault.TheVariants.{Empty, Form, TooLarge, TooFine}
 use Rattle.d_text.proofs.OneReading.{one-reading}
+use Rattle.d_text.proofs.OnceLaws.{form_once, form_filled, large_other, fault_once, place_once}
 use Rattle.d_text.proofs.DecimalLaws.{decimal_same, floor_same}
 use Rattle.d_text.proofs.FaultLaws.{empty_other, decimal_refused}
 use Rattle.d_text.proofs.GridLaws.{grid_same, list_same}
 use Rattle.d_columns.specs.declared.names.Structure.{Structure}
 use Rattle.d_columns.specs.Tiers.{Row, is_hole, IsLeastHole}
 use Rattle.d_urdb.specs.Numbers.{IsNumber, IsBeyond, IsEnd, IsHours, IsList}
-
--- the place at which a cell is no decimal
-form_once : (cell : List ℕ) (a b : ℕ) → IsFormFault cell a → IsFormFault cell b → a ≡ b
-form_once cell a b ha hb =
-    let up : b ≤ a = ha.longest b hb.within hb.begins in
-    let down : a ≤ b = hb.longest a ha.within ha.begins in
-    omega arith
-
-form_filled : (cell : List ℕ) (place : ℕ) → cell ≡ [] → IsFormFault cell place → ⊥
-form_filled cell place empty h =
-    let none : length cell ≡ 0 = ap length empty in
-    let some : 0 < length cell = h.some in
-    omega arith
-
--- a decimal has one limit
-large_other : (cell : List ℕ) (places limit : ℕ) (w v : Written) → IsDecimalText cell w → IsDecimalText cell v → (IsInLimit w places limit → ⊥) → IsInLimit v places limit → ⊥
-large_other cell places limit w v hw hv above within =
-    let same : v ≡ w = one-reading cell v w hv hw in
-    above (let P : Written → Type 0 = λ x. IsInLimit x places limit in subst P same within)
-
--- why a cell is no decimal
-fault_once : (cell : List ℕ) (places limit : ℕ) (a b : DecimalFault) → IsDecimalFault cell places limit a → IsDecimalFault cell places limit b → a ≡ b
-fault_once cell places limit Empty Empty ha hb = refl
-fault_once cell places limit Empty (Form q) ha hb = absurd (form_filled cell q ha hb)
-fault_once cell places limit Empty TooLarge ha hb = absurd (empty_other cell hb.0 ha hb.1)
-fault_once cell places limit Empty TooFine ha hb = absurd (empty_other cell hb.0 ha hb.1)
-fault_once cell places limit (Form p) Empty ha hb = absurd (form_filled cell p hb ha)
-fault_once cell places limit (Form p) (Form q) ha hb = ap Form (form_once cell p q ha hb)
-fault_once cell places limit (Form p) TooLarge ha hb = absurd (ha.other hb.0 hb.1)
-fault_once cell places limit (Form p) TooFine ha hb = absurd (ha.other hb.0 hb.1)
-fault_once cell places limit TooLarge Empty ha hb = absurd (empty_other cell ha.0 hb ha.1)
-fault_once cell places limit TooLarge (Form q) ha hb = absurd (hb.other ha.0 ha.1)
-fault_once cell places limit TooLarge TooLarge ha hb = refl
-fault_once cell places limit TooLarge TooFine ha hb = absurd (large_other cell places limit ha.0 hb.0 ha.1 hb.1 ha.2 hb.2)
-fault_once cell places limit TooFine Empty ha hb = absurd (empty_other cell ha.0 hb ha.1)
-fault_once cell places limit TooFine (Form q) ha hb = absurd (hb.other ha.0 ha.1)
-fault_once cell places limit TooFine TooLarge ha hb = absurd (large_other cell places limit hb.0 ha.0 hb.1 ha.1 hb.2 ha.2)
-fault_once cell places limit TooFine TooFine ha hb = refl
 
 -- a value and why there is none
 number_or_fault : (cell : List ℕ) (limit : ℕ) (value : ℤ) (fault : DecimalFault) → IsNumber limit cell (Ok value) → IsNumber limit cell (Err fault) → ⊥
@@ -133,12 +96,6 @@ rows_once cell rows others (inr a) (inr b) = grid_same cell rows others a b
 rows_or_place : (cell : List ℕ) (rows : List (List ℕ)) (place : ℕ) → IsHours cell (Ok rows) → IsHours cell (Err place) → ⊥
 rows_or_place cell rows place (inl blank) refused = refused.0 blank.0
 rows_or_place cell rows place (inr is) refused = refused.1.other rows is
-
-place_once : {A : Type 0} (form : ℕ → List ℕ → A → Type 0) (cell : List ℕ) (a b : ℕ) → IsRefusedAt form cell a → IsRefusedAt form cell b → a ≡ b
-place_once form cell a b ha hb =
-    let up : b ≤ a = ha.longest b hb.within hb.begins in
-    let down : a ≤ b = hb.longest a ha.within ha.begins in
-    omega arith
 
 pub hours_once : (cell : List ℕ) (a b : Result (List (List ℕ)) ℕ) → IsHours cell a → IsHours cell b → a ≡ b
 hours_once cell (Ok rows) (Ok others) ha hb = ap Ok (rows_once cell rows others ha hb)
