@@ -1,5 +1,5 @@
 -- The column that a hole is told by.
-use Rattle.std.proofs.Common.{◌≡◌, ◌∙◌, ℕ, zero, suc, ◌≤◌, Bool, true, false, ◌&&◌, Option, None, Some, Result, Ok, Err, IfOk, refl, sym, subst, inl, inr}
+use Rattle.std.proofs.Common.{◌≡◌, ◌∙◌, ℕ, zero, suc, Bool, true, false, ◌&&◌, Option, None, Some, Result, Ok, Err, IfOk, refl, sym, subst, inl, inr}
 use Rattle.std.proofs.lemmas.Bool.{cases_Bool}
 use Rattle.d_columns.specs.declared.names.Structure.{Structure}
 use Rattle.d_columns.specs.declared.names.Part.{Part}

@@ -1,13 +1,11 @@
 -- Columns that nothing is read from.
-use Rattle.std.proofs.Common.{◌≡◌, ◌∙◌, ◌<◌, ◌≤◌, ◌+◌, ◌||◌, ℕ, zero, suc, Bool, true, false, List, [], ◌∷◌, ◌++◌, length, take, map, filter, get_or, Option, None, Some, Bor, arith, refl, sym, ap, inl, inr, add-one}
+use Rattle.std.proofs.Common.{◌≡◌, ◌∙◌, ◌<◌, ◌≤◌, ◌+◌, ◌||◌, ℕ, zero, suc, Bool, true, false, List, [], length, take, map, get_or, Option, None, Some, Bor, arith, refl, sym, ap, inl, inr}
 use Rattle.std.proofs.lemmas.Bool.{cases_Bool, cases_eq}
 use Rattle.std.proofs.lemmas.Bool.Decides.{nat_tests}
-use Rattle.std.proofs.lemmas.List.{append-nil, get_or-map, length-map, take_all}
+use Rattle.std.proofs.lemmas.List.{get_or-map, length-map, take_all}
 use Rattle.std.proofs.lemmas.List.Folds.{list_any_at, list_any_more}
-use Rattle.std.proofs.lemmas.List.Elements.{filter-append}
 use Rattle.std.specs.List.{list_any, range_with_len}
-use Rattle.d_columns.specs.Ignored.{is_column, is_ignored, ignored_columns}
-use Rattle.d_columns.specs.Tiers.{Row}
+use Rattle.d_columns.specs.Ignored.{is_column}
 
 -- the texts that are referred to
 abbrev pub texts : List (Bor (List ℕ)) → List (List ℕ)

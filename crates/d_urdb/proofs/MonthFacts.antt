@@ -1,5 +1,5 @@
 -- Lists of months in one cell or in twelve columns.
-use Rattle.std.proofs.Common.{◌≡◌, ◌∙◌, ℕ, ℤ, zero, suc, ◌+◌, ◌/◌, ◌%◌, ◌<◌, ◌≤◌, true, false, List, [], ◌∷◌, ◌++◌, length, map, decimal, get_or, All, Bor, None, Some, Result, Ok, Err, refl, sym, ap, arith, subst}
+use Rattle.std.proofs.Common.{◌≡◌, ◌∙◌, ℕ, ℤ, ◌<◌, ◌≤◌, true, false, List, [], ◌∷◌, length, All, None, Some, Result, Ok, Err, refl, sym, ap, subst}
 use Rattle.std.specs.Bool.{◌==◌}
 use Rattle.d_table.specs.Table.{column_of}
 use Rattle.d_text.specs.declared.items.Span.{Span}
@@ -7,9 +7,8 @@ use Rattle.d_text.specs.Grid.{IsListOf}
 use Rattle.d_text.specs.declared.decimal.DecimalFault.{DecimalFault}
 use Rattle.d_urdb.specs.declared.fault.Refused.{Refused}
 use Rattle.d_columns.specs.declared.month_list.MonthList.{MonthList}
-use Rattle.d_columns.specs.MonthLists.{month_names}
 use Rattle.d_urdb.specs.Items.{AreListed}
-use Rattle.d_columns.specs.MonthLists.{list_name, month_front, month_name, is_listed}
+use Rattle.d_columns.specs.MonthLists.{list_name, is_listed}
 use Rattle.d_urdb.specs.Months.{item_cell, item_column, item_refusal, list_refusal}
 use Rattle.d_urdb.specs.Numbers.{CellReader, IsCellReader, IsList}
 use Rattle.d_urdb.specs.Refusals.{first_of, refusal, detail_of}

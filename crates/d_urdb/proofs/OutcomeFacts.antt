@@ -1,5 +1,5 @@
 -- The outcome of a record by that of its row.
-use Rattle.std.proofs.Common.{◌≡◌, ◌∙◌, ℕ, List, Some, Result, Ok, Err, refl, sym, ap}
+use Rattle.std.proofs.Common.{◌≡◌, ◌∙◌, ℕ, List, Some, Ok, Err, refl, sym, ap}
 use Rattle.d_urdb.specs.declared.terms.Accepted.{Accepted}
 use Rattle.d_tariff.specs.Terms.{Terms}
 use Rattle.d_urdb.specs.declared.fault.Refused.{Refused}

@@ -1,6 +1,5 @@
 -- A cell is read in at most one way.
-use Rattle.std.proofs.Common.{◌≡◌, ◌⊎◌, inl, inr, ℕ, ◌^◌, ◌≤◌, ◌<◌, ℤ, Bool, true, false, Option, None, Some, Result, Ok, Err, List, [], ◌∷◌, length, arith, refl, sym, ap, subst, ◌∙◌}
-use Rattle.std.proofs.lemmas.Bool.{cases_lt}
+use Rattle.std.proofs.Common.{◌≡◌, inl, inr, ℕ, ◌^◌, ◌≤◌, ◌<◌, ℤ, Bool, true, false, Option, None, Some, Result, Ok, Err, List, [], ◌∷◌, length, arith, refl, sym, ap, subst, ◌∙◌}
 use Rattle.d_text.specs.Decimal.{Written, IsDecimalText, IsFormFault, IsInLimit}
 use Rattle.d_text.specs.Fault.{IsDecimalFault}
 use Rattle.d_text.specs.declared.items.Span.{Span}
@@ -12,8 +11,6 @@ use Rattle.d_text.proofs.OnceLaws.{form_once, form_filled, large_other, fault_on
 use Rattle.d_text.proofs.DecimalLaws.{decimal_same, floor_same}
 use Rattle.d_text.proofs.FaultLaws.{empty_other, decimal_refused}
 use Rattle.d_text.proofs.GridLaws.{grid_same, list_same}
-use Rattle.d_columns.specs.declared.names.Structure.{Structure}
-use Rattle.d_columns.specs.Tiers.{Row, is_hole, IsLeastHole}
 use Rattle.d_urdb.specs.Numbers.{IsNumber, IsBeyond, IsEnd, IsHours, IsList}
 
 -- a value and why there is none

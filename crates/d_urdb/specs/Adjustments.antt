@@ -2,15 +2,12 @@
 -- and the order, are our own rules.
 use Rattle.std.specs.Prelude.{ℕ, pos, not, List, [], ◌∷◌, ◌++◌, codes, Option}
 use Rattle.std.specs.Ordering.{int_eq}
-use Rattle.d_table.specs.Table.{column_of}
 use Rattle.d_urdb.specs.declared.fault.Refused.{Refused}
 use Rattle.d_columns.specs.declared.month_list.MonthList.TheVariants.{FuelAdjustments}
 use Rattle.d_columns.specs.declared.names.Part.{Part}
 use Rattle.d_columns.specs.declared.names.Part.TheVariants.{Rate, Adj}
 use Rattle.d_columns.specs.declared.names.Structure.TheVariants.{Coincident}
-use Rattle.d_urdb.specs.Charges.{charge_limit}
 use Rattle.d_urdb.specs.Months.{item_cell, item_column, item_refusal, list_refusal}
-use Rattle.d_urdb.specs.NamedNumbers.{name_refusal, named_number}
 use Rattle.d_urdb.specs.Numbers.{CellReader}
 use Rattle.d_urdb.specs.Periods.{price_limit, part_price, price_in, price_refusal}
 use Rattle.d_urdb.specs.Refusals.{each, refusal, when}

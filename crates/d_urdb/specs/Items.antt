@@ -1,9 +1,9 @@
 -- Where the items of a list of months stand in a row.
-use Rattle.std.specs.Prelude.{◌≡◌, ℕ, ℤ, pos, slice_index_or, ◌<◌, ◌≤◌, true, false, List, [], ◌∷◌, ◌++◌, codes, length, All, Option, None, Some, Ok}
+use Rattle.std.specs.Prelude.{◌≡◌, ℕ, ℤ, pos, slice_index_or, ◌<◌, ◌≤◌, true, false, List, length, All, Option, None, Some, Ok}
 use Rattle.d_text.specs.declared.items.Span.{Span}
 use Rattle.d_columns.specs.declared.month_list.MonthList.{MonthList}
 use Rattle.d_urdb.specs.declared.months.Items.{Items}
-use Rattle.d_columns.specs.MonthLists.{list_name, month_front, is_listed}
+use Rattle.d_columns.specs.MonthLists.{list_name, is_listed}
 use Rattle.d_urdb.specs.Months.{item_cell}
 use Rattle.d_urdb.specs.Numbers.{CellReader, IsCellReader}
 use Rattle.d_urdb.specs.Periods.{number_or_0}

@@ -1,16 +1,15 @@
 -- Lists with an item for each month, January first. The rate database's bulk file has them in brackets in one cell, or in twelve columns
 -- whose names end in the month's number; where the one cell is filled it counts, and the twelve aren't read. The limits are our own.
-use Rattle.std.specs.Prelude.{ℕ, ◌+◌, ◌-◌, Bool, List, [], ◌++◌, take, drop, codes, decimal, Option, None, Some, Result, Ok, Err, if◌then◌else◌, slice_index_or}
+use Rattle.std.specs.Prelude.{ℕ, ◌-◌, List, [], take, drop, Option, None, Some, Result, Ok, Err, if◌then◌else◌, slice_index_or}
 use Rattle.d_table.specs.Table.{column_of}
 use Rattle.d_text.specs.declared.items.Span.{Span}
 use Rattle.d_urdb.specs.declared.fault.Refused.{Refused}
 use Rattle.d_columns.specs.declared.month_list.MonthList.{MonthList}
-use Rattle.d_columns.specs.declared.month_list.MonthList.TheVariants.{FlatPeriods, Ratchets, FuelAdjustments}
 use Rattle.d_urdb.specs.Numbers.{CellReader}
 use Rattle.d_urdb.specs.Periods.{fault_refusal}
 use Rattle.d_urdb.specs.Refusals.{refusal}
 use Rattle.d_columns.specs.MonthLists.{list_name, month_name, is_listed}
-use Rattle.d_columns.specs.Tiers.{Row, named_cell, is_filled}
+use Rattle.d_columns.specs.Tiers.{Row, named_cell}
 use Rattle.d_urdb.specs.declared.cause.Cause.TheVariants as cause
 
 -- where the items stand in a cell; nowhere where it is no list

@@ -1,4 +1,3 @@
-use Rattle.std.proofs.Common.{sym}
 use Rattle.d_columns.specs.Shown.{row_of}
 use Rattle.d_columns.proofs.HoleCells.{inner_found, late_read}
 use Rattle.d_columns.proofs.HoleFacts.{none_at_all}
