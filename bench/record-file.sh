@@ -3,19 +3,11 @@
 # the wanted label or none, of `L,1` rows and of one very long cell, and tables of `,` rows and of `0,0` rows. With the word `whole` the
 # record files have 2^30 bytes, the most that a record file may have, and else 2^26; the tables have 2^24. It proves and builds the program
 # of bench/table.sh in a folder that it removes. It isn't part of the gate.
-top=$(CDPATH='' cd -- "$(dirname -- "$0")/.." && pwd) || exit 1
+. "$(dirname -- "$0")/lib.sh"
 record=67108864
 [ "$1" = whole ] && record=1073741824
-work=$(mktemp -d) || exit 1
-trap 'rm -rf "$work"' EXIT
-crate=$work/crates/passes
-mkdir -p "$crate/src" "$crate/proofs/plain_pass"
-cp -r "$top/crates/d_table" "$work/crates/d_table" && rm -rf "$work/crates/d_table/out"
-printf 'd_table: csv indexmap\npasses: d_table csv\n' >"$work/crates.txt"
-cp "$top/bench/table/main.rt.txt" "$crate/src/main.rt"
-cp "$top/bench/table/invariants.antt.txt" "$crate/proofs/plain_pass/Invariants.antt"
-(cd "$crate" && rt run </dev/null) >"$work/build.log" 2>&1
-[ -x "$crate/out/passes" ] || { cat "$work/build.log" >&2; exit 1; }
+lend d_table
+build passes table d_table csv
 # HEADER ROW SIZE: a file of this header and of as many such rows as the size has room for
 fill() {
     python3 - "$work/big.csv" "$@" <<'PY'
@@ -42,7 +34,9 @@ PY
 run() {
     echo "$1: $(wc -c <"$work/big.csv") bytes"
     shift
-    (cd "$work" && /usr/bin/time -f '  %e s, peak memory %M KB' "$crate/out/passes" "$@" 2>&1) | sed 's/^\([0-9]*\)$/  \1 rows kept/'
+    cd "$work" || exit 1
+    best 1 1 "$program" "$@"
+    peak "$program" "$@"
 }
 fill label L "$record"
 run "rows L, all with the label" where L

@@ -6,15 +6,13 @@ ghost use Rattle.d_run.specs.Answer.{IsBilled, IsMeteredBill, no_storage};
 ghost use Rattle.d_run.specs.Replies.{IsReply, Shows, inputs_with};
 ghost use Rattle.d_run.specs.Text.{bill_text, break_text};
 
+use crate::draft::WIDE_LIMIT;
 use crate::lines::{line_text, put_bill, put_title};
 use crate::reply::Reply;
 use crate::verdict::Verdict;
 use d_model::{Battery, Meter, Mode, ModeList, Name, Problem, Tally};
 use d_num::{Money, NoMemory, Rate, Wh};
 use std::alloc::Global;
-
-// The greatest import and export of an interval where nothing limits them, in Wh.
-const WIDE_LIMIT: i64 = 10_000_000_000;
 
 /// The bill of the readings alone, without a battery.
 pub fn metered_bill(

@@ -16,7 +16,7 @@ use d_num::Wh;
 use std::alloc::Global;
 
 // What both limits of the grid are where the file sets none, in Wh.
-const WIDE_LIMIT: i64 = 10_000_000_000;
+pub(crate) const WIDE_LIMIT: i64 = 10_000_000_000;
 
 const MOST_MODES: usize = 64;
 
