@@ -43,6 +43,7 @@ impl Problem {
         ensures value { IfOk result (λ p. inputs_of p ≡ plain_of price meter.now battery.now) }
         ensures range { IfOk result (λ p. IsInRange (inputs_of p)) }
     {
+        // shows the price's range
         let _units = price.units();
         let meter = meter.copied(alloc)?;
         let battery = battery.copied(alloc)?;

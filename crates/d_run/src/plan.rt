@@ -167,6 +167,7 @@ fn start_text(alloc: Global, problem: &Problem, t: u32) -> Result<String, AllocE
     requires { t < length (inputs_of problem.now).net }
     ensures { IfOk result (λ text. string_bytes text ≡ spec.start_text (inputs_of problem.now) t) }
 {
+    // shows the ranges of the inputs
     let _count = problem.intervals();
     let minute = t * problem.minutes() as u32;
     let date = date_text(alloc, problem.month(), minute / MINUTES_PER_DAY + 1)?;
