@@ -78,7 +78,7 @@ hourly_in_range readings stored price month storage fair is_month battery =
     let whole : length month.net ≡ days_in_month month.year month.number * 24 = is_month.readings.whole in
     record {
       month = is_month.month;
-      minutes = inr (inr refl);
+      minutes = refl;
       whole = omega (arith, whole);
       some_interval = omega (arith, whole, days.1);
       few_intervals = omega (arith, whole, days.0);

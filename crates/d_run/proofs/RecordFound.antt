@@ -90,9 +90,9 @@ outcome_same : (rows : List (List (List ℕ))) (label : List ℕ) (rule : RuleCh
     → HasOutcome rows label rule other → one ≡ other
 outcome_same rows label rule one other is is_other = known one is ∙ sym (known other is_other)
   where
-    known : (outcome : Result Terms Refused) → HasOutcome rows label rule outcome → outcome ≡ record_outcome one_reader.readings (rows_with_label label rows) label rule
+    known : (outcome : Result Terms Refused) → HasOutcome rows label rule outcome → outcome ≡ record_outcome one_reader.reader (rows_with_label label rows) label rule
     known outcome has =
-        has.is.2 ∙ ap (λ (reader : CellReader). record_outcome readings (rows_with_label label rows) label rule) (one_reader.only has.is.0 has.is.1)
+        has.is.2 ∙ ap (λ (reader : CellReader). record_outcome reader (rows_with_label label rows) label rule) (one_reader.only has.is.0 has.is.1)
 
 -- a record file has one record's terms, or one refusal
 pub record_known : (rows : List (List (List ℕ))) (label : List ℕ) (rule : RuleChoice) → IsKnown (RefusesRecord rows label rule) (IsRecord rows label rule)
@@ -126,7 +126,7 @@ record_known rows label rule = by_shape (even_or_odd rows)
         (λ terms means. not_both terms fault means is)
 
     by_shape : IsRectangular rows ⊎ ((row : ℕ) × IsFirstOdd rows row) → IsKnown (RefusesRecord rows label rule) (IsRecord rows label rule)
-    by_shape (inl even) = by_outcome (record_outcome one_reader.readings (rows_with_label label rows) label rule)
+    by_shape (inl even) = by_outcome (record_outcome one_reader.reader (rows_with_label label rows) label rule)
         (record { rectangular = even; is = (one_reader.readings, one_reader.are, refl) })
     by_shape (inr odd) = known_refused (refused (RecordShape odd.0)) (inl (odd.0, odd.1, refl)) (odd_only odd.0 odd.1)
         (λ terms means. no_odd rows odd.0 means.rectangular odd.1)

@@ -1,6 +1,12 @@
 use Rattle.d_table.specs.Table.{rows_of}
-use Rattle.d_run.proofs.RecordFound.{record_ends}
+use Rattle.d_tariff.specs.Shown.{terms_of}
+use Rattle.d_run.proofs.RecordFound.{record_ends, record_is}
 use Rattle.d_run.proofs.record.read_record.Goals as goal
+
+pub returns-in-Ok-read_record : goal.returns-in-Ok-read_record
+returns-in-Ok-read_record c =
+    record_is (rows_of c.args.bytes.now) c.in-Ok.table c.args.label.now c.as_bytes-label.result.now c.args.rule (terms_of c.in-Ok-read_record.tariff)
+    c.in-Ok.ensures.rectangular c.in-Ok.ensures.value c.as_bytes-label.ensures.value c.in-Ok-read_record.ensures.tariff
 
 pub returns-in-Err-Refused : goal.returns-in-Err-Refused
 returns-in-Err-Refused c =
