@@ -127,6 +127,6 @@ record_known rows label rule = by_shape (even_or_odd rows)
 
     by_shape : IsRectangular rows ⊎ ((row : ℕ) × IsFirstOdd rows row) → IsKnown (RefusesRecord rows label rule) (IsRecord rows label rule)
     by_shape (inl even) = by_outcome (record_outcome one_reader.reader (rows_with_label label rows) label rule)
-        (record { rectangular = even; is = (one_reader.readings, one_reader.are, refl) })
+        (record { rectangular = even; is = (one_reader.reader, one_reader.is_reader, refl) })
     by_shape (inr odd) = known_refused (refused (RecordShape odd.0)) (inl (odd.0, odd.1, refl)) (odd_only odd.0 odd.1)
         (λ terms means. no_odd rows odd.0 means.rectangular odd.1)
