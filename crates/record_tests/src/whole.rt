@@ -42,9 +42,9 @@ fn a_month_has_its_periods(rt: HostRuntime) -> Result<(), Fail> {
     let june = Month::new(2025, 6).expect(&rt, "a month");
     assert!(rt; june.days() >= 1);
     let period = tariff.period_at(june, 1, 23);
-    assert!(rt; period.tiers.price(0).units() == 100_000_000_000_000_000);
+    assert!(rt; period.tiers.lowest_price().units() == 100_000_000_000_000_000);
     let tiers = tariff.flat_tiers(june).expect(&rt, "tiers of flat demand");
-    assert!(rt; tiers.price(0).units() == 5_000_000_000_000_000_000);
+    assert!(rt; tiers.lowest_price().units() == 5_000_000_000_000_000_000);
     let december = Month::new(2025, 12).expect(&rt, "a month");
     assert!(rt; tariff.flat_tiers(december).is_none());
     Ok(())
