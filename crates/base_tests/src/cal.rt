@@ -56,56 +56,32 @@ fn weekends_are_saturdays_and_sundays(rt: HostRuntime) {
     }
 }
 
-/// One schedule tells the kind of day and the month, the other the hour, so no two places are alike in both.
-#[test]
-fn each_hour_has_the_period_of_its_place(rt: HostRuntime) {
-    let mut weekday_months = [[0; 24]; 12];
-    let mut weekend_months = [[0; 24]; 12];
-    let mut hours = [[0; 24]; 12];
-    for i in 0..12u8 {
-        weekday_months[i as usize] = [i; 24];
-        weekend_months[i as usize] = [12 + i; 24];
-        for hour in 0..24u8 {
-            hours[i as usize][hour as usize] = hour;
-        }
-    }
-    let by_month = schedule(&rt, weekday_months, weekend_months);
-    let by_hour = schedule(&rt, hours, hours);
-    assert_eq!(rt;
-        (by_month.weekday()[11][0], by_month.weekend()[11][0]),
-        (11, 23)
-    );
-    // Saturdays of 2024, each after a Friday of the same month
-    for (number, saturday) in [(1, 6), (2, 3), (3, 2), (6, 29), (9, 28), (12, 28)] {
-        let month = month(&rt, 2024, number);
-        assert!(rt; 2 <= saturday && saturday <= month.days());
-        for hour in 0..24u8 {
-            assert_eq!(rt; by_month.period_at(month, saturday - 1, hour), number - 1);
-            assert_eq!(rt; by_month.period_at(month, saturday, hour), number + 11);
-            assert_eq!(rt; by_hour.period_at(month, saturday - 1, hour), hour);
-            assert_eq!(rt; by_hour.period_at(month, saturday, hour), hour);
-        }
-    }
-}
-
 #[test]
 fn periods_end_at_35(rt: HostRuntime) {
     let low = [[0; 24]; 12];
     let mut high = [[0; 24]; 12];
     high[11][23] = 35;
-    assert!(rt; Schedule::new(low, high).is_some() && Schedule::new(high, low).is_some());
+    let schedule = Schedule::new(low, high).expect(&rt, "a schedule");
+    let month = month(&rt, 2024, 12);
+    assert!(rt; month.days() >= 7);
+    assert_eq!(rt;
+        (
+            schedule.period_at(month, 6, 23),
+            schedule.period_at(month, 7, 23)
+        ),
+        (0, 35)
+    );
+    assert_eq!(rt;
+        (schedule.weekday()[11][23], schedule.weekend()[11][23]),
+        (0, 35)
+    );
     high[11][23] = 36;
-    assert!(rt; Schedule::new(low, high).is_none() && Schedule::new(high, low).is_none());
+    assert!(rt; Schedule::new(low, high).is_none());
 }
 
 /// The month of a number that is there.
 fn month(rt: &impl Abort, year: i16, number: u8) -> Month {
     Month::new(year, number).expect(rt, "a month")
-}
-
-/// The schedule of two grids of periods.
-fn schedule(rt: &impl Abort, weekday: [[u8; 24]; 12], weekend: [[u8; 24]; 12]) -> Schedule {
-    Schedule::new(weekday, weekend).expect(rt, "a schedule")
 }
 
 /// Whether a day that is there is on a weekend.

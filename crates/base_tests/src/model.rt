@@ -4,9 +4,7 @@ ghost use Rattle.std.specs.Prelude.{◌≡◌, ◌^◌, length, IfOk};
 ghost use Rattle.d_num.specs.Amount.{IsWithin};
 
 use d_list::Items;
-use d_model::{
-    Battery, Meter, Mode, Month, Name, Problem, ScheduleFault, Tally, is_start, read_schedule,
-};
+use d_model::{Battery, Meter, Mode, Month, Name, Problem, Tally, is_start, read_schedule};
 use d_num::{NoMemory, Rate, Wh};
 use d_table::read_table;
 use std::alloc::{AllocError, Global};
@@ -126,39 +124,6 @@ fn bills_what_the_meter_shows(rt: HostRuntime) -> Result<(), Fail> {
 }
 
 #[test]
-fn shows_what_it_was_made_of(rt: HostRuntime) -> Result<(), Fail> {
-    let alloc = rt.alloc();
-    let meter = february(alloc, 1000)?;
-    let battery = battery(&rt, alloc, 4, 1, 0)?;
-    let problem = Problem::plain(alloc, Rate::new(7).unwrap(), &meter, &battery)?;
-    assert_eq!(rt;
-        (
-            problem.intervals(),
-            problem.minutes(),
-            problem.price().units()
-        ),
-        (672, 60, 7)
-    );
-    assert!(rt; Some(problem.month()) == Month::new(2025, 2));
-    assert_eq!(rt; problem.month().days(), 28);
-    assert_eq!(rt; problem.net(0).value(), 1000);
-
-    let modes = problem.battery().modes.as_slice();
-    assert_eq!(rt; modes.len(), 2);
-    assert_eq!(rt; modes[1].name.bytes(), b"discharge".as_slice());
-    let discharge = problem.arc(0, 1).expect(&rt, "an arc");
-    assert_eq!(rt;
-        (
-            discharge.import.value(),
-            discharge.export.value(),
-            discharge.power.value()
-        ),
-        (0, 2000, 0)
-    );
-    Ok(())
-}
-
-#[test]
 fn knows_the_start_of_an_interval(rt: HostRuntime) -> Result<(), Fail> {
     let rows: [(&[u8], u8, u32, bool); 8] = [
         (b"2024-02-29T23:45", 15, 2783, true),
@@ -200,13 +165,14 @@ fn schedule_text(
     Ok(text)
 }
 
-/// What is wrong with a schedule's file, with its numbers.
-fn shown(fault: ScheduleFault) -> (&'static str, u64, u64) {
-    match fault {
-        ScheduleFault::Shape => ("shape", 0, 0),
-        ScheduleFault::Count(have, need) => ("count", have, need),
-        ScheduleFault::Start(row) => ("start", row, 0),
-        ScheduleFault::Mode(row) => ("mode", row, 0),
+/// What is read of a file of so many rows: the modes of two hours, or None where it is refused.
+fn modes_of(problem: &Problem, text: &str, alloc: Global) -> Result<Option<(u8, u8)>, Fail> {
+    let table = read_table(alloc, text.as_bytes())?;
+    let mut schedule = [9; 672];
+    if problem.intervals() == 672 && read_schedule(&table, problem, &mut schedule).is_ok() {
+        Ok(Some((schedule[4], schedule[5])))
+    } else {
+        Ok(None)
     }
 }
 
@@ -216,27 +182,10 @@ fn reads_the_schedule_of_a_month(rt: HostRuntime) -> Result<(), Fail> {
     let meter = february(alloc, 1000)?;
     let battery = battery(&rt, alloc, 4, 1, 0)?;
     let problem = Problem::plain(alloc, Rate::new(7).unwrap(), &meter, &battery)?;
-    let cases = [
-        ("START,Mode", 0, 672, "discharge", ("", 0, 0)),
-        ("start,net_wh", 0, 672, "discharge", ("shape", 0, 0)),
-        ("start,mode", 0, 671, "discharge", ("count", 671, 672)),
-        ("start,mode", 1, 672, "discharge", ("start", 0, 0)),
-        ("start,mode", 0, 672, "Discharge", ("mode", 5, 0)),
-    ];
-    for (header, from, count, sixth, wanted) in cases {
-        let text = schedule_text(alloc, header, from, count, sixth)?;
-        let table = read_table(alloc, text.as_bytes())?;
-        let mut schedule = [9; 672];
-        assert_eq!(rt; problem.intervals(), 672);
-        let found = match read_schedule(&table, &problem, &mut schedule) {
-            Ok(()) => ("", 0, 0),
-            Err(fault) => shown(fault),
-        };
-        assert_eq!(rt; found, wanted);
-        let modes = (schedule[4], schedule[5], schedule[671]);
-        let kept = if found.0 == "" { (0, 1, 0) } else { (9, 9, 9) };
-        assert_eq!(rt; modes, kept);
-    }
+    let text = schedule_text(alloc, "START,Mode", 0, 672, "discharge")?;
+    assert!(rt; modes_of(&problem, text.as_str(), alloc)? == Some((0, 1)));
+    let short = schedule_text(alloc, "start,mode", 0, 671, "discharge")?;
+    assert!(rt; modes_of(&problem, short.as_str(), alloc)?.is_none());
     Ok(())
 }
 
