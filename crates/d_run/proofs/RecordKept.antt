@@ -1,6 +1,6 @@
 -- Of a record file the first two rows of a label are kept: they have the outcome, and the line of a refusal, that all of them have.
-use Rattle.std.proofs.Common.{◌≡◌, ◌∙◌, ℕ, List, [], ◌∷◌, take, drop, filter, Option, None, Some, Result, refl, ap}
-use Rattle.d_table.specs.Table.{row_at, kept_rows, rows_where, has_value, column_of}
+use Rattle.std.proofs.Common.{◌≡◌, ◌∙◌, ℕ, List, [], ◌∷◌, take, filter, Option, None, Some, Result, refl, ap}
+use Rattle.d_table.specs.Table.{kept_rows, has_value, column_of}
 use Rattle.d_table.proofs.KeptFacts.{filter-first_two}
 use Rattle.d_tariff.specs.Terms.{Terms}
 use Rattle.d_urdb.specs.Numbers.{CellReader}

@@ -1,5 +1,5 @@
 -- The line that says why a record is refused. Its form, and the numbers and names of the refusals, are our own.
-use Rattle.std.specs.Prelude.{ℕ, nat_lt, List, [], ◌∷◌, ◌++◌, length, slice_index_or, codes, if◌then◌else◌}
+use Rattle.std.specs.Prelude.{ℕ, nat_lt, List, ◌∷◌, ◌++◌, length, codes, if◌then◌else◌}
 use Rattle.std.specs.Fmt.{decimal}
 use Rattle.d_table.specs.Table.{row_at, cell_in}
 use Rattle.d_urdb.specs.RefusalNames.{refusal_name}

@@ -1,8 +1,8 @@
-pub mod Marks
-pub mod NameFacts
-pub mod CellFacts
-pub mod ReadingFacts
-pub mod RowFacts
-pub mod ColumnFacts
-pub mod BlockFacts
+mod Marks
+mod NameFacts
+mod CellFacts
+mod ReadingFacts
+mod RowFacts
+mod ColumnFacts
+mod BlockFacts
 pub mod KeptFacts

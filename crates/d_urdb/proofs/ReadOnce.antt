@@ -1,9 +1,8 @@
 -- A cell is read in at most one way.
-use Rattle.std.proofs.Common.{◌≡◌, inl, inr, ℕ, ◌^◌, ◌≤◌, ◌<◌, ℤ, Bool, true, false, Option, None, Some, Result, Ok, Err, List, [], ◌∷◌, length, arith, refl, sym, ap, subst, ◌∙◌}
-use Rattle.d_text.specs.Decimal.{Written, IsDecimalText, IsFormFault, IsInLimit}
-use Rattle.d_text.specs.Fault.{IsDecimalFault}
+use Rattle.std.proofs.Common.{◌≡◌, inl, inr, ℕ, ◌^◌, ℤ, Bool, true, false, Option, None, Some, Result, Ok, Err, List, [], ◌∷◌, refl, sym, ap, ◌∙◌}
+use Rattle.d_text.specs.Decimal.{IsFormFault}
 use Rattle.d_text.specs.declared.items.Span.{Span}
-use Rattle.d_text.specs.Grid.{IsGridOf, IsGridText, IsListText, IsRefusedAt}
+use Rattle.d_text.specs.Grid.{IsGridOf, IsGridText, IsListText}
 use Rattle.d_text.specs.declared.decimal.DecimalFault.{DecimalFault}
 use Rattle.d_text.specs.declared.decimal.DecimalFault.TheVariants.{Empty, Form, TooLarge, TooFine}
 use Rattle.d_text.proofs.OneReading.{one-reading}

@@ -1,7 +1,6 @@
 -- Demand and flat demand: their units, and the tiers of their periods.
-use Rattle.std.specs.Prelude.{◌≡◌, ℕ, Bool, not, ◌||◌, List, [], ◌∷◌, bytes_eq, codes, Option, None, Some, map, if◌then◌else◌}
+use Rattle.std.specs.Prelude.{◌≡◌, ℕ, Bool, not, List, [], ◌∷◌, codes, Option, None, Some, map, if◌then◌else◌}
 use Rattle.std.specs.List.{range_with_len}
-use Rattle.std.specs.Str.{str_to_ascii_lowercase}
 use Rattle.d_cal.specs.declared.schedule.Schedule.{Schedule}
 use Rattle.d_table.specs.Table.{column_of}
 use Rattle.d_tier.specs.declared.tier.Tier.{Tier}
@@ -9,9 +8,9 @@ use Rattle.d_urdb.specs.declared.fault.Refused.{Refused}
 use Rattle.d_columns.specs.declared.names.Structure.{Structure}
 use Rattle.d_urdb.specs.Hours.{grid_refusal, hours_in}
 use Rattle.d_urdb.specs.Numbers.{CellReader, IsCellReader}
-use Rattle.d_urdb.specs.Periods.{tiers_to}
+use Rattle.d_urdb.specs.Periods.{is_unit, tiers_to}
 use Rattle.d_urdb.specs.Refusals.{refusal, when}
-use Rattle.d_columns.specs.Tiers.{Row, named_cell, has_tier, is_filled}
+use Rattle.d_columns.specs.Tiers.{Row, named_cell, has_tier}
 use Rattle.d_urdb.specs.declared.cause.Cause.TheVariants as cause
 
 -- the column of the demand periods of weekday hours
@@ -32,7 +31,7 @@ flat_unit_name = codes "flatdemandunit"
 
 -- an accepted unit of demand: none, or kW in letters of either case
 abbrev pub is_kw : List ℕ → Bool
-is_kw cell = not (is_filled cell) || bytes_eq (str_to_ascii_lowercase cell) (codes "kw")
+is_kw = is_unit (codes "kw")
 
 -- 12: the unit of demand
 abbrev pub demand_unit_refusal : Row → List ℕ → Option Refused

@@ -68,9 +68,13 @@ is_above None end = false
 is_above (Some begin) None = false
 is_above (Some begin) (Some end) = int_lt begin end
 
+-- a cell that is blank or says this unit in letters of either case
+abbrev pub is_unit : List ℕ → List ℕ → Bool
+is_unit unit cell = not (is_filled cell) || bytes_eq (str_to_ascii_lowercase cell) unit
+
 -- an accepted unit of a tier: none, or kWh in letters of either case
 abbrev pub is_kwh : List ℕ → Bool
-is_kwh cell = not (is_filled cell) || bytes_eq (str_to_ascii_lowercase cell) (codes "kwh")
+is_kwh = is_unit (codes "kwh")
 
 -- the first tier, of 16, whose sell rate is given
 abbrev pub first_sell : Row → Structure → ℕ → Option ℕ

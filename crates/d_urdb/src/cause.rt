@@ -1,6 +1,6 @@
 //! For what records are refused.
 
-ghost use Rattle.std.specs.Prelude.{◌≡◌, ◌⊎◌, ◌<◌, MatchOption};
+ghost use Rattle.std.specs.Prelude.{◌≡◌};
 ghost use Rattle.d_urdb.specs.RefusalNames as spec;
 ghost use Rattle.d_urdb.specs.Refusals.{number_of};
 
@@ -83,87 +83,37 @@ impl Cause {
             Cause::Fraction => 22,
         }
     }
-
-    /// The cause of that number, or None exactly where no cause has it.
-    fn of_number(number: u8) -> Option<Cause>
-        ensures { MatchOption result ((number ≡ 0) ⊎ (22 < number)) (λ cause. number_of cause ≡ number) }
-    {
-        match number {
-            1 => Some(Cause::NoLabel),
-            2 => Some(Cause::LabelTwice),
-            3 => Some(Cause::NoColumn),
-            4 => Some(Cause::Decimal),
-            5 => Some(Cause::Grid),
-            6 => Some(Cause::EnergyMissing),
-            7 => Some(Cause::TierHole),
-            8 => Some(Cause::TierOrder),
-            9 => Some(Cause::TierUnit),
-            10 => Some(Cause::SellTiers),
-            11 => Some(Cause::DemandFalls),
-            12 => Some(Cause::DemandUnit),
-            13 => Some(Cause::NetMetering),
-            14 => Some(Cause::BuyAllSellAll),
-            15 => Some(Cause::HourlyRule),
-            16 => Some(Cause::Coincident),
-            17 => Some(Cause::Reactive),
-            18 => Some(Cause::AnnualMinimum),
-            19 => Some(Cause::FuelAdjustment),
-            20 => Some(Cause::ChargeUnit),
-            21 => Some(Cause::RuleUnknown),
-            22 => Some(Cause::Fraction),
-            _ => None,
-        }
-    }
-
-    /// Its name, which is the variant's.
-    fn name(self) -> &'static str
-        ensures { result.now ≡ spec.refusal_name (number_of self) }
-    {
-        match self {
-            Cause::NoLabel => "NoLabel",
-            Cause::LabelTwice => "LabelTwice",
-            Cause::NoColumn => "NoColumn",
-            Cause::Decimal => "Decimal",
-            Cause::Grid => "Grid",
-            Cause::EnergyMissing => "EnergyMissing",
-            Cause::TierHole => "TierHole",
-            Cause::TierOrder => "TierOrder",
-            Cause::TierUnit => "TierUnit",
-            Cause::SellTiers => "SellTiers",
-            Cause::DemandFalls => "DemandFalls",
-            Cause::DemandUnit => "DemandUnit",
-            Cause::NetMetering => "NetMetering",
-            Cause::BuyAllSellAll => "BuyAllSellAll",
-            Cause::HourlyRule => "HourlyRule",
-            Cause::Coincident => "Coincident",
-            Cause::Reactive => "Reactive",
-            Cause::AnnualMinimum => "AnnualMinimum",
-            Cause::FuelAdjustment => "FuelAdjustment",
-            Cause::ChargeUnit => "ChargeUnit",
-            Cause::RuleUnknown => "RuleUnknown",
-            Cause::Fraction => "Fraction",
-        }
-    }
 }
 
-/// The name of a refusal by its number, or no text for a number that no refusal has. 0 is a file whose rows differ in length, and 23 what isn't
-/// planned yet; neither is a record's.
+/// The name of a refusal by its number, or no text for a number that no refusal has. A record's is its cause's. 0 is a file whose rows differ
+/// in length, and 23 what isn't planned yet; neither is a record's.
 pub fn refusal_name(number: u8) -> &'static str
-    ensures { result.now ≡ spec.refusal_name number }
-{
-    match Cause::of_number(number) {
-        Some(cause) => cause.name(),
-        None => other_name(number),
-    }
-}
-
-/// The name of a refusal that is no record's.
-fn other_name(number: u8) -> &'static str
-    requires { (number ≡ 0) ⊎ (22 < number) }
     ensures { result.now ≡ spec.refusal_name number }
 {
     match number {
         0 => "Shape",
+        1 => "NoLabel",
+        2 => "LabelTwice",
+        3 => "NoColumn",
+        4 => "Decimal",
+        5 => "Grid",
+        6 => "EnergyMissing",
+        7 => "TierHole",
+        8 => "TierOrder",
+        9 => "TierUnit",
+        10 => "SellTiers",
+        11 => "DemandFalls",
+        12 => "DemandUnit",
+        13 => "NetMetering",
+        14 => "BuyAllSellAll",
+        15 => "HourlyRule",
+        16 => "Coincident",
+        17 => "Reactive",
+        18 => "AnnualMinimum",
+        19 => "FuelAdjustment",
+        20 => "ChargeUnit",
+        21 => "RuleUnknown",
+        22 => "Fraction",
         23 => "NotYet",
         _ => "",
     }

@@ -183,7 +183,10 @@ impl<'a> Record<'a> {
         ensures { result ≡ spec.has_other_unit (row_of self.now) structure period tier }
     {
         self.cells.has_tier(structure, period, 1)
-            && !is_kwh(self.cells.part_cell(structure, period, tier, Part::Unit))
+            && !is_unit(
+                self.cells.part_cell(structure, period, tier, Part::Unit),
+                b"kwh",
+            )
     }
 
     /// Tests that a tier ends above where it begins, unless it is the last.
@@ -286,9 +289,9 @@ fn is_demand(structure: Structure) -> bool
     matches!(structure, Structure::Demand | Structure::FlatDemand)
 }
 
-/// Whether the cell is an accepted unit of a tier.
-fn is_kwh(cell: &[u8]) -> bool
-    ensures { result ≡ spec.is_kwh cell.now }
+/// Whether the cell is blank or this unit, ASCII case ignored. The unit is in small letters.
+pub(crate) fn is_unit(cell: &[u8], unit: &[u8]) -> bool
+    ensures { result ≡ spec.is_unit unit.now cell.now }
 {
-    cell.is_empty() || is_named(cell, b"kwh")
+    cell.is_empty() || is_named(cell, unit)
 }

@@ -12,12 +12,12 @@ ghost use Rattle.d_urdb.specs.Shown.{row_of};
 ghost use Rattle.d_urdb.specs.Values.{HasRisingEnds, HasSoundTiers, HasSoundPrices};
 
 use crate::cause::Cause;
+use crate::checks::is_unit;
 use crate::fault::Refused;
 use crate::row::Record;
 use d_cal::Schedule;
 use d_columns::{PERIODS, Structure};
 use d_num::NoMemory;
-use d_table::is_named;
 use d_tariff::TierLists;
 use d_tier::Tiers;
 use std::alloc::Global;
@@ -27,7 +27,7 @@ impl<'a> Record<'a> {
     pub(crate) fn check_demand_unit(&self, name: &[u8]) -> Result<(), Refused>
         ensures { Checks (λ reader. spec.demand_unit_refusal (row_of self.now) name.now ∷ []) result }
     {
-        if !is_kw(self.cells.named_cell(name)) {
+        if !is_unit(self.cells.named_cell(name), b"kw") {
             let column = self.cells.position(name);
             return Err(self.refusal(Cause::DemandUnit, column, 0));
         }
@@ -77,11 +77,4 @@ impl<'a> Record<'a> {
         }
         Some(self.tiers(structure, period))
     }
-}
-
-/// Whether the cell is an accepted unit of demand.
-fn is_kw(cell: &[u8]) -> bool
-    ensures { result ≡ spec.is_kw cell.now }
-{
-    cell.is_empty() || is_named(cell, b"kw")
 }

@@ -35,18 +35,11 @@ impl<'a> Record<'a> {
         ensures { Checks (λ reader. each 12 (λ month. spec.fuel_refusal reader (row_of self.now) month ∷ [])) result }
     {
         for month in 0..12 {
-            if isnt_zero(numbers[usize::from(month)]) {
+            if numbers[usize::from(month)] != 0 {
                 let column = self.item_column(items, month);
                 return Err(self.refusal(Cause::FuelAdjustment, column, 0));
             }
         }
         Ok(())
     }
-}
-
-/// Whether the number isn't 0.
-fn isnt_zero(number: i128) -> bool
-    ensures { result ≡ not (int_eq number (pos 0)) }
-{
-    number != 0
 }

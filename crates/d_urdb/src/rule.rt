@@ -13,7 +13,7 @@ use crate::row::Record;
 use d_table::is_named;
 
 /// Which rule a record is planned by.
-#[derive(Clone, Copy, PartialEq, Eq, Debug)]
+#[derive(Clone, Copy)]
 pub enum RuleChoice {
     /// The one that it says.
     AsRecorded,
@@ -37,7 +37,7 @@ impl<'a> Record<'a> {
     pub(crate) fn is_hourly(&self, rule: RuleChoice) -> bool
         ensures { result ≡ spec.is_hourly (row_of self.now) rule }
     {
-        rule == RuleChoice::AsRecorded && self.says_rule(b"net billing hourly")
+        matches!(rule, RuleChoice::AsRecorded) && self.says_rule(b"net billing hourly")
     }
 
     /// Tests the rule that the record says.

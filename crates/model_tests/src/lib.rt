@@ -1,0 +1,7 @@
+//! Tests of the problem of a month and of the cheapest way, over public calls alone. It has nothing else, so that no crate is proved again for its tests.
+#![tactic(auto)]
+
+#[cfg(test)]
+mod model;
+#[cfg(test)]
+mod path;

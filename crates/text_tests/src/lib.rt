@@ -1,0 +1,5 @@
+//! Tests of what is read from texts and written into them, over public calls alone. It has nothing else, so that no crate is proved again for its tests.
+#![tactic(auto)]
+
+#[cfg(test)]
+mod text;
