@@ -4,7 +4,7 @@ use Rattle.std.proofs.Math.Path.{ap₂}
 use Rattle.std.proofs.lemmas.Int.{ints}
 use Rattle.d_num.specs.Amount.{IsWithin, IsUpTo}
 use Rattle.d_model.specs.Inputs.{Inputs}
-use Rattle.d_model.specs.Sums.{sum_of_first}
+use Rattle.d_num.specs.Sums.{sum_of_first}
 use Rattle.d_model.specs.Flows.{import_of, net_at}
 use Rattle.d_model.proofs.WalkFacts.{sum_of_first-more, sum_of_first-none}
 

@@ -8,7 +8,7 @@ use Rattle.d_num.specs.Amount.{IsWithin, IsUpTo}
 use Rattle.d_model.specs.declared.mode.Mode.{Mode}
 use Rattle.d_model.specs.Storage.{IsMode}
 use Rattle.d_model.specs.Inputs.{Inputs, IsInRange}
-use Rattle.d_model.specs.Sums.{sum_of_first}
+use Rattle.d_num.specs.Sums.{sum_of_first}
 use Rattle.d_model.specs.Flows.{import_of, flow_of, net_at}
 use Rattle.d_model.specs.Schedules.{KeepsRules, KeepsAt, IsFeasible, IsFirstBreak, change_of, level_at}
 use Rattle.d_model.specs.Totals.{import_with}

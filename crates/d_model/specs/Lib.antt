@@ -2,7 +2,6 @@ pub mod Calendar
 pub mod Storage
 pub mod Readings
 pub mod Inputs
-pub mod Sums
 pub mod Flows
 pub mod Schedules
 pub mod Totals

@@ -1,7 +1,7 @@
 -- What is counted of a schedule before it is priced.
 use Rattle.std.specs.Prelude.{◌≡◌, ◌⊎◌, ℕ, ℤ, pos, List, ◌∷◌, length, replicate, slice_get, slice_index, option_map, unwrap_or}
 use Rattle.d_model.specs.Inputs.{Inputs}
-use Rattle.d_model.specs.Sums.{sum_of_first}
+use Rattle.d_num.specs.Sums.{sum_of_first}
 use Rattle.d_model.specs.Flows.{import_of, net_at, flow_of}
 use Rattle.d_model.specs.Schedules.{IsFeasible}
 

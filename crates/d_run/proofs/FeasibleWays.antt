@@ -8,7 +8,7 @@ use Rattle.d_num.specs.declared.pot.Pot.{Pot}
 use Rattle.d_num.specs.declared.pot.Pot.TheVariants.{To, NoWay}
 use Rattle.d_num.specs.Pot.{joined}
 use Rattle.d_model.specs.Inputs.{Inputs, IsInRange}
-use Rattle.d_model.specs.Sums.{sum_of_first}
+use Rattle.d_num.specs.Sums.{sum_of_first}
 use Rattle.d_model.specs.Schedules.{KeepsRules, KeepsAt, IsFeasible, change_of, level_at}
 use Rattle.d_model.specs.Bills.{bill_of}
 use Rattle.d_model.proofs.WalkFacts.{sum_of_first-more, sum_of_first-none}

@@ -3,7 +3,7 @@ use Rattle.std.proofs.Common.{◌≡◌, ℕ, zero, suc, ℤ, pos, negsuc, ◌+�
 use Rattle.std.proofs.lemmas.Int.{ints}
 use Rattle.d_model.specs.declared.mode.Mode.{Mode}
 use Rattle.d_model.specs.Inputs.{Inputs}
-use Rattle.d_model.specs.Sums.{sum_of_first}
+use Rattle.d_num.specs.Sums.{sum_of_first}
 use Rattle.d_model.specs.Flows.{import_of, flow_of}
 use Rattle.d_model.specs.Totals.{import_with}
 use Rattle.d_model.proofs.RuleFacts.{import_there}

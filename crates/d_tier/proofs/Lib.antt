@@ -1,2 +1,3 @@
 mod PriceFacts
 mod TableFacts
+mod ChargeFacts

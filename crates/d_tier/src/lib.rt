@@ -4,8 +4,10 @@
 //! nothing here takes memory.
 #![tactic(auto)]
 
+mod peak;
 mod tier;
 mod tiers;
 
+pub use peak::Peak;
 pub use tier::Tier;
 pub use tiers::Tiers;

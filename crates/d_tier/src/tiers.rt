@@ -1,10 +1,12 @@
 //! A table of tiers.
 
-ghost use Rattle.std.specs.Prelude.{◌≡◌, ◌↔◌, ◌+◌, ◌^◌, ◌<◌, ◌≤◌, [], ◌∷◌, length, pos, ◌<ℤ◌, ◌≤ℤ◌, IsNone, IfSome};
-ghost use Rattle.d_tier.specs.Tables.{IsTierTable, IsTierEnd, IsLowestPrice, IsHighestPrice, open_tier, with_tier, last_end, price_at, end_at};
+ghost use Rattle.std.specs.Prelude.{◌≡◌, ◌↔◌, ℕ, ◌+◌, ◌*◌, ◌^◌, ◌<◌, ◌≤◌, [], ◌∷◌, length, pos, ◌<ℤ◌, ◌≤ℤ◌, IsNone, IfSome, All};
+ghost use Rattle.d_num.specs.Amount.{IsUpTo, IsWithin};
+ghost use Rattle.d_tier.specs.Charges.{part_end, tier_charge};
+ghost use Rattle.d_tier.specs.Tables.{AreTiersFrom, IsTierTable, IsTierEnd, IsLowestPrice, IsHighestPrice, open_tier, with_tier, last_end, price_at, end_at};
 
 use crate::tier::Tier;
-use d_num::Rate;
+use d_num::{Money, Rate};
 use std::marker::Model;
 
 const MOST_TIERS: usize = 16;
@@ -100,6 +102,16 @@ impl Tiers {
         highest_of(&self.tiers[..self.count])
     }
 
+    /// What an amount is charged: each tier's price for the part of the amount that lies in it. The amount is in Wh or W, from 0 to
+    /// 2 * 10^13.
+    pub fn charge(&self, amount: i64) -> Money
+        requires { IsUpTo (2 * 10 ^ 13) amount }
+        ensures value { result ≡ tier_charge self.now amount }
+        ensures size { (m n : ℕ) → All (λ tier. IsWithin m tier.price) self.now → IsUpTo n amount → IsWithin (m * n) result }
+    {
+        charge_of(&self.tiers[..self.count], amount)
+    }
+
     /// The same table once more.
     pub fn copied(&self) -> Tiers
         ensures { result ≡ self.now }
@@ -142,4 +154,36 @@ fn highest_of(tiers: &[Tier]) -> Rate
         }
     }
     highest
+}
+
+/// What an amount is charged by some tiers: it stops at the tier that holds the amount's end.
+fn charge_of(tiers: &[Tier], amount: i64) -> Money
+    requires tiers { AreTiersFrom (pos 0) tiers.now }
+    requires amount { IsUpTo (2 * 10 ^ 13) amount }
+    ensures value { result ≡ tier_charge tiers.now amount }
+    ensures range { IsWithin (2 * 10 ^ 35) result }
+{
+    let mut begin = 0;
+    let mut charge = Money::new(0).unwrap();
+    for tier in tiers {
+        // shows the price's range
+        let _units = tier.price.units();
+        let end = end_of_part(tier.end, amount);
+        charge = charge.plus(tier.price.times(end - begin));
+        if end == amount {
+            return charge;
+        }
+        begin = end;
+    }
+    unreachable!()
+}
+
+/// Where the part of an amount that lies below a tier's end ends.
+fn end_of_part(end: Option<i64>, amount: i64) -> i64
+    ensures { result ≡ part_end end amount }
+{
+    match end {
+        Some(end) => end.min(amount),
+        None => amount,
+    }
 }
