@@ -1,7 +1,7 @@
 -- The date and the time of a start's sixteen bytes.
 use Rattle.std.proofs.Common.{◌≡◌, ℕ, ◌/◌, ◌%◌, ◌<◌, ℤ, unsigned_abs, List, [], ◌∷◌, ◌++◌, length, length-append, append_assoc, append-nil, take, drop, refl, sym, ap, ◌∙◌, arith}
 use Rattle.std.proofs.lemmas.List.{take_at, drop_at}
-use Rattle.d_model.specs.Calendar.{IsMonth}
+use Rattle.d_cal.specs.Calendar.{IsMonth}
 use Rattle.d_model.specs.Starts.{date_text, time_text}
 use Rattle.d_model.proofs.Digits.{two_digits, four_digits, year_size}
 

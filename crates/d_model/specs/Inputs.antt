@@ -2,7 +2,7 @@
 use Rattle.std.specs.Prelude.{◌≡◌, ℕ, ℤ, List, ◌*◌, ◌^◌, ◌≤◌, length, All}
 use Rattle.jiff_core.specs.Calendar.{days_in_month}
 use Rattle.d_num.specs.Amount.{IsWithin, IsRate, IsReadingLength}
-use Rattle.d_model.specs.Calendar.{IsMonth}
+use Rattle.d_cal.specs.Calendar.{IsMonth}
 use Rattle.d_model.specs.Storage.{Storage, IsStorage}
 
 -- a month, its net readings, the price of energy in 10^-18 USD per kWh, and the battery

@@ -1,4 +1,3 @@
-pub mod Calendar
 pub mod Storage
 pub mod Readings
 pub mod Inputs

@@ -2,7 +2,7 @@
 
 ghost use Rattle.d_model.specs.Readings.{IsReadings};
 
-use crate::month::Month;
+use d_cal::Month;
 use d_list::Items;
 use d_num::{NoMemory, Wh};
 use std::alloc::Global;

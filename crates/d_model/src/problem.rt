@@ -8,7 +8,7 @@ use crate::arc::{Arc, At};
 use crate::battery::Battery;
 use crate::meter::Meter;
 use crate::mode::Mode;
-use crate::month::Month;
+use d_cal::Month;
 use crate::tally::Tally;
 use d_num::{Money, NoMemory, Rate, Watt, Wh};
 use std::alloc::Global;

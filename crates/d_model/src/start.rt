@@ -6,7 +6,7 @@ ghost use Rattle.d_num.specs.Amount.{IsReadingLength};
 ghost use Rattle.d_text.specs.Text.{zero_padded};
 ghost use Rattle.d_model.specs.Starts.{date_text, time_text, start_day, start_minute, IsMoment, IsStartText};
 
-use crate::month::Month;
+use d_cal::Month;
 
 /// Whether the cell is the start of that interval of the month, counted from 0: its date as `YYYY-MM-DD`, T or one space, its time as
 /// `HH:MM`, and then nothing or `:00`. It takes no memory.

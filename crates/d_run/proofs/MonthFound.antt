@@ -5,7 +5,7 @@ use Rattle.std.specs.Str.Parse.{digits_value}
 use mir.Val.{to_z}
 use Rattle.std.proofs.lemmas.List.{length-map, get_or-map, get_or-drop, length-drop, ext_get_or}
 use Rattle.jiff_core.specs.Calendar.{days_in_month}
-use Rattle.d_model.specs.Calendar.{IsMonth}
+use Rattle.d_cal.specs.Calendar.{IsMonth}
 use Rattle.d_table.specs.Table.{row_at, cell_in}
 use Rattle.std.specs.Str.{str_to_ascii_lowercase}
 use Rattle.d_model.specs.Starts.{IsStartText, date_text, time_text, start_day, start_minute}

@@ -7,7 +7,7 @@ use mir.Val.{to_z}
 use Rattle.std.proofs.lemmas.Int.{ints, to_z_pos}
 use Rattle.std.proofs.lemmas.List.{length-replicate, take_at, drop_at}
 use Rattle.std.proofs.lemmas.Fmt.{decimal_is_IsNumeral, length-decimal-le}
-use Rattle.d_model.specs.Calendar.{IsMonth}
+use Rattle.d_cal.specs.Calendar.{IsMonth}
 use Rattle.d_text.specs.Text.{zero_padded}
 use Rattle.d_model.specs.Starts.{IsStartText, time_text}
 

@@ -65,12 +65,12 @@ price_same terms year number one other is is_other =
     flat_same one other same
 
 -- where the period of the first hour has no one price the month has none
-pub none_by_first : (terms : Terms) (year year' : ℤ) (number number' : ℕ) (period : Period) (result : Option ℤ) → year' ≡ year → number' ≡ number
-    → period_at terms.energy (first_period terms year' number') ≡ Some period → IfNone result ((price : ℤ) → period ≡ flat_period price → ⊥)
+pub none_by_first : (terms : Terms) (year : ℤ) (number : ℕ) (period : Period) (result : Option ℤ)
+    → period_at terms.energy (first_period terms year number) ≡ Some period → IfNone result ((price : ℤ) → period ≡ flat_period price → ⊥)
     → IfNone result ((price : ℤ) → IsOnePrice terms year number price → ⊥)
-none_by_first terms year year' number number' period (Some price) same_year same_number there none = tt
-none_by_first terms year year' number number' period None same_year same_number there none = λ price is.
-    let first : first_period terms year' number' ≡ is.period = rw (same_year, same_number) (sym (only_first terms year number is.period is.only)) in
+none_by_first terms year number period (Some price) there none = tt
+none_by_first terms year number period None there none = λ price is.
+    let first : first_period terms year number ≡ is.period = sym (only_first terms year number is.period is.only) in
     let both : Some period ≡ Some (flat_period price) = sym there ∙ ap (period_at terms.energy) first ∙ is.flat in
     let same : period ≡ flat_period price = cc in
     none price same

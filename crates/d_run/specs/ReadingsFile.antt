@@ -3,7 +3,7 @@ use Rattle.std.specs.Prelude.{◌≡◌, ℕ, ◌+◌, ◌*◌, ◌^◌, ◌<◌
 use Rattle.jiff_core.specs.Calendar.{days_in_month}
 use Rattle.d_table.specs.Table.{row_at, IsHeader}
 use Rattle.d_text.specs.Fault.{IsDecimalOf}
-use Rattle.d_model.specs.Calendar.{IsMonth}
+use Rattle.d_cal.specs.Calendar.{IsMonth}
 use Rattle.d_model.specs.Starts.{IsStartText}
 
 -- the net reading in whole Wh, at most 10^9 in size

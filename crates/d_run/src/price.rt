@@ -6,8 +6,7 @@ ghost use Rattle.d_cal.specs.Calendar.{IsDayOf};
 ghost use Rattle.d_tariff.specs.Shown.{terms_of};
 ghost use Rattle.d_run.specs.Record.{HasOnePeriod, IsInPeriod, IsOnePrice, IsFree, HasFreeHours, HasFreeDays, IsEnergyAlone, flat_period};
 
-use d_cal::Schedule;
-use d_model::Month;
+use d_cal::{Month, Schedule};
 use d_num::Rate;
 use d_tariff::{Period, Tariff};
 use d_tier::Tiers;
@@ -19,7 +18,6 @@ pub fn one_price(tariff: &Tariff, month: Month) -> Option<Rate>
     ensures none { IfNone result ((price : ℤ) → IsOnePrice (terms_of tariff.now) month.year month.number price → ⊥) }
     ensures some { IfSome result (IsOnePrice (terms_of tariff.now) month.year month.number) }
 {
-    let month = civil_month(month);
     if has_energy_alone(tariff, month) && has_one_period(&tariff.energy_hours, month) {
         flat_price(tariff.period_at(month, 1, 0))
     } else {
@@ -27,19 +25,8 @@ pub fn one_price(tariff: &Tariff, month: Month) -> Option<Rate>
     }
 }
 
-/// The month as the calendar of tariffs has it.
-fn civil_month(month: Month) -> d_cal::Month
-    ensures year { result.year ≡ month.year }
-    ensures number { result.number ≡ month.number }
-{
-    match d_cal::Month::new(month.year(), month.number()) {
-        Some(month) => month,
-        None => unreachable!(),
-    }
-}
-
 /// Whether nothing but energy is billed for the month.
-fn has_energy_alone(tariff: &Tariff, month: d_cal::Month) -> bool
+fn has_energy_alone(tariff: &Tariff, month: Month) -> bool
     ensures { IsTrue result ↔ IsEnergyAlone (terms_of tariff.now) month.year month.number }
 {
     tariff.fixed.amount.units() == 0
@@ -49,7 +36,7 @@ fn has_energy_alone(tariff: &Tariff, month: d_cal::Month) -> bool
 }
 
 /// Whether in each hour of the month demand has no price other than 0.
-fn has_free_days(tariff: &Tariff, month: d_cal::Month) -> bool
+fn has_free_days(tariff: &Tariff, month: Month) -> bool
     ensures { IsTrue result ↔ HasFreeDays (terms_of tariff.now) month.year month.number }
 {
     let days = month.days();
@@ -62,7 +49,7 @@ fn has_free_days(tariff: &Tariff, month: d_cal::Month) -> bool
 }
 
 /// Whether in each hour of the day demand has no price other than 0.
-fn has_free_hours(tariff: &Tariff, month: d_cal::Month, day: u8) -> bool
+fn has_free_hours(tariff: &Tariff, month: Month, day: u8) -> bool
     requires { IsDayOf month.year month.number day }
     ensures { IsTrue result ↔ HasFreeHours (terms_of tariff.now) month.year month.number day }
 {
@@ -98,7 +85,7 @@ fn has_no_price(tiers: &Tiers) -> bool
 }
 
 /// Whether each hour of the month is in the period of its first hour.
-fn has_one_period(hours: &Schedule, month: d_cal::Month) -> bool
+fn has_one_period(hours: &Schedule, month: Month) -> bool
     ensures { IsTrue result ↔ HasOnePeriod hours.now.weekday hours.now.weekend month.year month.number }
 {
     let period = hours.period_at(month, 1, 0);
@@ -111,7 +98,7 @@ fn has_one_period(hours: &Schedule, month: d_cal::Month) -> bool
 }
 
 /// Whether each hour of the day is in this period.
-fn is_in_period(hours: &Schedule, month: d_cal::Month, day: u8, period: u8) -> bool
+fn is_in_period(hours: &Schedule, month: Month, day: u8, period: u8) -> bool
     requires { IsDayOf month.year month.number day }
     ensures { IsTrue result ↔ IsInPeriod hours.now.weekday hours.now.weekend month.year month.number day period }
 {

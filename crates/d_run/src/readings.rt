@@ -7,7 +7,8 @@ ghost use Rattle.d_run.specs.ReadingsFile.{IsReadingsFile, AreReadingRows, IsRea
 
 use crate::fault::ReadFault;
 use crate::number::{read_digits, read_reading};
-use d_model::{Meter, Month, NetList, is_start};
+use d_cal::Month;
+use d_model::{Meter, NetList, is_start};
 use d_num::Wh;
 use d_table::{Table, read_table};
 use std::alloc::Global;

@@ -3,7 +3,7 @@
 ghost use Rattle.std.specs.Prelude.{◌≡◌, IfOk, string_bytes};
 ghost use Rattle.d_model.specs.Starts as spec;
 
-use d_model::Month;
+use d_cal::Month;
 use std::alloc::{AllocError, Global};
 
 /// The month, as YYYY-MM.

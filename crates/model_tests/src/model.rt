@@ -3,8 +3,9 @@
 ghost use Rattle.std.specs.Prelude.{◌≡◌, ◌^◌, length, IfOk};
 ghost use Rattle.d_num.specs.Amount.{IsWithin};
 
+use d_cal::Month;
 use d_list::Items;
-use d_model::{Battery, Meter, Mode, Month, Name, Problem, Tally, is_start, read_schedule};
+use d_model::{Battery, Meter, Mode, Name, Problem, Tally, is_start, read_schedule};
 use d_num::{NoMemory, Rate, Wh};
 use d_table::read_table;
 use std::alloc::{AllocError, Global};

@@ -4,5 +4,5 @@ use Rattle.d_run.proofs.price.one_price.Goals as goal
 
 pub returns-then-has_one_period-clause-none : goal.returns-then-has_one_period-clause-none
 returns-then-has_one_period-clause-none c =
-    none_by_first (terms_of c.args.tariff.now) c.args.month.year c.civil_month-month.result.year c.args.month.number c.civil_month-month.result.number
-    c.period_at.result.now c.flat_price.result c.civil_month-month.ensures.year c.civil_month-month.ensures.number c.period_at.ensures.value c.flat_price.ensures.none
+    none_by_first (terms_of c.args.tariff.now) c.args.month.year c.args.month.number c.period_at.result.now c.flat_price.result
+    c.period_at.ensures.value c.flat_price.ensures.none
