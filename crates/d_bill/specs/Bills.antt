@@ -8,7 +8,6 @@ use Rattle.d_tier.specs.declared.peak.Peak.{Peak}
 use Rattle.d_tariff.specs.declared.period.Period.{Period}
 use Rattle.d_tariff.specs.Terms.{period_at}
 use Rattle.d_bill.specs.Inputs.{Inputs}
-use Rattle.d_bill.specs.Flows.{flow_at}
 use Rattle.d_bill.specs.Schedules.{IsFeasible}
 use Rattle.d_bill.specs.Totals.{Tallied, tally_of, metered_tally}
 

@@ -5,9 +5,11 @@
 #![tactic(auto)]
 
 mod arc;
+mod law;
 mod problem;
 mod tally;
 
 pub use arc::{Arc, At, Interval};
+pub use law::{least_by_energy, parts_by_slopes, parts_sum};
 pub use problem::Problem;
 pub use tally::Tally;
