@@ -1,0 +1,6 @@
+mod Values
+mod RangeFacts
+mod PartFacts
+mod TierFacts
+mod SlopeFacts
+pub mod LeastFacts
