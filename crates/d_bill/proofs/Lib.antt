@@ -4,3 +4,5 @@ mod PartFacts
 mod TierFacts
 mod SlopeFacts
 pub mod LeastFacts
+mod FlowFacts
+pub mod RuleFacts

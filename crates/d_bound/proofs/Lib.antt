@@ -1,0 +1,5 @@
+mod RateFacts
+mod PlanArcs
+mod PlanSteps
+mod FeasibleWays
+mod LeastWays

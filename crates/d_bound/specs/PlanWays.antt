@@ -1,0 +1,68 @@
+-- The ways of a problem: its modes as moves, and what the energy of each mode costs in each interval where every energy period has one
+-- rate. All of it is our own rule.
+use Rattle.std.specs.Prelude.{◌≡◌, ℕ, ◌*◌, ◌^◌, ◌/◌, ◌%◌, ℤ, ◌*ℤ◌, ◌-ℤ◌, List, Option, Some, None, Vec, All, length, map, MatchOption}
+use Rattle.std.specs.declared.alloc.Global.{Global}
+use Rattle.std.specs.List.{range_with_len}
+use Rattle.d_num.specs.Amount.{IsWithin}
+use Rattle.d_num.specs.declared.pot.Pot.{Pot}
+use Rattle.d_num.specs.declared.pot.Pot.TheVariants.{To, NoWay}
+use Rattle.d_bill.specs.declared.arc.Arc.{Arc}
+use Rattle.d_model.specs.declared.mode.Mode.{Mode}
+use Rattle.d_bill.specs.Inputs.{Inputs, period_in, sell_at}
+use Rattle.d_bill.specs.Flows.{arc_of, flow_at}
+use Rattle.d_bill.specs.Prices.{rate_of, cost_of_flow}
+use Rattle.d_path.specs.declared.ways.Move.{Move}
+use Rattle.d_bill.specs.Schedules.{IsFeasible}
+use Rattle.d_bill.specs.Bills.{IsFirstLeast}
+use Rattle.d_path.specs.Arcs.{Arcs, way_cost}
+use Rattle.d_path.specs.Cheapest.{IsFirstCheapest}
+
+-- what an interval's import costs at the rate of its period, less what its export is paid; no way where nothing is permitted
+abbrev pub priced : Inputs → List ℤ → ℕ → Option Arc → Pot
+priced i rates t None = NoWay
+priced i rates t (Some arc) = To (rate_of rates (period_in i t) *ℤ arc.import -ℤ sell_at i t *ℤ arc.export)
+
+-- what the mode of this number costs in interval t; no way where there is no such mode or it isn't permitted
+abbrev pub mode_cost : Inputs → List ℤ → ℕ → ℕ → Pot
+mode_cost i rates t number = priced i rates t (arc_of i t number)
+
+-- the cost at a place of the list that goes interval by interval
+abbrev pub cost_at : Inputs → List ℤ → ℕ → Pot
+cost_at i rates place = mode_cost i rates (place / length i.storage.modes) (place % length i.storage.modes)
+
+-- what each mode costs in each interval, interval by interval
+unfoldable pub mode_costs : Inputs → List ℤ → List Pot
+mode_costs i rates = map (cost_at i rates) (range_with_len 0 (length i.net * length i.storage.modes))
+
+-- how a mode moves the level
+abbrev pub move_of : Mode → Move
+move_of mode = record { change = mode.change; low = mode.low; high = mode.high }
+
+-- the moves and their costs, the levels of the battery, where it starts and the least level at its end
+abbrev pub plan_arcs : Inputs → List ℤ → Arcs
+plan_arcs i rates = record {
+  costs = mode_costs i rates;
+  moves = map move_of i.storage.modes;
+  floor = i.storage.floor;
+  capacity = i.storage.capacity;
+  start = i.storage.start;
+  end = i.storage.end;
+}
+
+-- what a schedule's energy costs at these rates
+abbrev pub rated_cost : Inputs → List ℤ → List ℕ → ℤ
+rated_cost i rates s = cost_of_flow i rates (flow_at i s)
+
+-- a rate for each period, at most 3000 USD per kWh in size
+abbrev pub AreRates : List ℤ → Type 0
+AreRates rates = All (IsWithin (3 * 10 ^ 21)) rates
+
+-- nothing where there is no way from this level, or the first of the cheapest
+abbrev pub IsFoundWay : Arcs → ℕ → Option (Vec ℕ Global) → Type 0
+IsFoundWay arcs start found =
+    MatchOption found ((way : List ℕ) → way_cost arcs 0 start way ≡ NoWay) (λ way. IsFirstCheapest arcs 0 start way.items)
+
+-- nothing where no schedule is feasible, or the first of those whose energy costs least
+abbrev pub IsFoundLeast : Inputs → List ℤ → Option (Vec ℕ Global) → Type 0
+IsFoundLeast i rates found =
+    MatchOption found ((schedule : List ℕ) → IsFeasible i schedule → ⊥) (λ schedule. IsFirstLeast i (rated_cost i rates) schedule.items)
