@@ -1,0 +1,4 @@
+mod PrintFacts
+mod LineFacts
+mod PlanTexts
+mod PlanLevels

@@ -1,0 +1,11 @@
+-- Lines made part by part.
+use Rattle.std.proofs.Common.{◌≡◌, List, ◌++◌, append_assoc, refl}
+
+-- three parts behind a text
+pub three_parts : {X : Type 0} (old one two three a b c : List X) → one ≡ old ++ a → two ≡ one ++ b → three ≡ two ++ c → three ≡ old ++ (a ++ (b ++ c))
+three_parts {X} old one two three a b c e1 e2 e3 = rw (e3, e2, e1) (simp append_assoc refl)
+
+-- four parts behind a text
+pub four_parts : {X : Type 0} (old one two three four a b c d : List X) → one ≡ old ++ a → two ≡ one ++ b → three ≡ two ++ c → four ≡ three ++ d
+    → four ≡ old ++ (a ++ (b ++ (c ++ d)))
+four_parts {X} old one two three four a b c d e1 e2 e3 e4 = rw (e4, e3, e2, e1) (simp append_assoc refl)

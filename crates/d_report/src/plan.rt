@@ -1,0 +1,149 @@
+//! The text of a plan.
+
+ghost use Rattle.std.specs.Prelude.{◌≡◌, pos, ◌+ℤ◌, ◌∷◌, ◌++◌, ◌<◌, length, IfOk, OnOk, string_bytes};
+ghost use Rattle.std.specs.Fmt.{decimal, signed_decimal};
+ghost use Rattle.d_num.specs.Amount.{IsUpTo};
+ghost use Rattle.d_bill.specs.Flows.{flow_of};
+ghost use Rattle.d_bill.specs.Schedules.{IsFeasible};
+ghost use Rattle.d_bill.specs.Totals.{IsTallied, tally_of};
+ghost use Rattle.d_bill.specs.Bills.{metered_bill};
+ghost use Rattle.d_report.specs.Lines.{start_text};
+ghost use Rattle.d_report.specs.Plans as spec;
+
+use crate::charges::put_bill;
+use crate::dates::{date_text, time_text};
+use crate::lines::{put_line, put_money, put_title};
+use d_bill::{Problem, Tally};
+use d_model::Mode;
+use d_num::{Money, NoMemory};
+use std::alloc::{AllocError, Global};
+
+const MINUTES_PER_DAY: u32 = 1440;
+
+/// The text of a plan by a feasible schedule: what is answered, what it costs and what the readings alone do, the lines of its bill, and a
+/// line for each interval.
+pub fn plan_text(
+    alloc: Global,
+    label: &str,
+    problem: &Problem,
+    schedule: &[u8],
+) -> Result<Vec<u8>, NoMemory>
+    requires { IsFeasible problem.now schedule.now }
+    ensures { IfOk result (λ text. text.items ≡ spec.plan_text problem.now label.now schedule.now) }
+{
+    let tally = tally_of(problem, schedule);
+    let mut text = Vec::new(alloc);
+    put_title(alloc, &mut text, "plan", label, problem)?;
+    put_verdict(&mut text, problem.bill(&tally), metered_bill(problem))?;
+    put_bill(&mut text, problem, &tally)?;
+    put_schedule(alloc, &mut text, problem, schedule)?;
+    Ok(text)
+}
+
+/// The tally of a feasible schedule.
+fn tally_of(problem: &Problem, schedule: &[u8]) -> Tally
+    requires { IsFeasible problem.now schedule.now }
+    ensures value { result ≡ tally_of problem.now schedule.now }
+    ensures tallied { IsTallied problem.now result }
+{
+    let mut tally = Tally::new();
+    match problem.walk(schedule, &mut tally) {
+        Ok(()) => tally,
+        Err(_) => unreachable!(),
+    }
+}
+
+/// The bill of the readings alone.
+fn metered_bill(problem: &Problem) -> Money
+    ensures { result ≡ metered_bill problem.now }
+{
+    let mut tally = Tally::new();
+    problem.metered(&mut tally);
+    problem.bill(&tally)
+}
+
+/// Adds the lines of a plan before those of its bill.
+fn put_verdict(text: &mut Vec<u8>, bill: Money, metered: Money) -> Result<(), NoMemory>
+    ensures { OnOk result (text.new.items ≡ text.old.items ++ spec.verdict_lines bill metered) }
+{
+    put_line(text, "verdict least", "")?;
+    put_money(text, "bill ", bill)?;
+    put_money(text, "metered ", metered)?;
+    put_line(text, "boxes 1", "")
+}
+
+/// The lines of a schedule, one an interval.
+fn put_schedule(
+    alloc: Global,
+    text: &mut Vec<u8>,
+    problem: &Problem,
+    schedule: &[u8],
+) -> Result<(), NoMemory>
+    requires { IsFeasible problem.now schedule.now }
+    ensures { OnOk result (text.new.items ≡ text.old.items ++ spec.schedule_lines problem.now schedule.now) }
+{
+    let modes = problem.battery().modes.as_slice();
+    let mut level = problem.battery().start;
+    for t in 0..problem.intervals() {
+        let mode = &modes[schedule[t as usize] as usize];
+        level = level_after(level, mode);
+        put_interval(alloc, text, problem, t, mode, level)?;
+    }
+    Ok(())
+}
+
+/// The level after a mode that begins at a level.
+fn level_after(level: u8, mode: &Mode) -> u8
+    requires { IsUpTo 255 (pos level +ℤ mode.now.change) }
+    ensures { pos result ≡ pos level +ℤ mode.now.change }
+{
+    (level as i16 + mode.change) as u8
+}
+
+/// The line of an interval: its start, the mode's name, the level after it and what flows through the meter in Wh.
+fn put_interval(
+    alloc: Global,
+    text: &mut Vec<u8>,
+    problem: &Problem,
+    t: u32,
+    mode: &Mode,
+    level: u8,
+) -> Result<(), NoMemory>
+    requires { t < length problem.now.net }
+    ensures { OnOk result (text.new.items ≡ text.old.items ++ spec.level_line problem.now t mode.now (pos level)) }
+{
+    let start = start_text(alloc, problem, t)?;
+    let numbers = two_numbers(alloc, level, flow(problem, t, mode))?;
+    text.extend_from_slice(start.as_str().as_bytes())?;
+    text.push(b' ')?;
+    text.extend_from_slice(mode.name.bytes())?;
+    put_line(text, " ", numbers.as_str())
+}
+
+/// What flows through the meter in an interval, in Wh.
+fn flow(problem: &Problem, t: u32, mode: &Mode) -> i64
+    requires { t < length problem.now.net }
+    ensures { result ≡ flow_of problem.now t mode.now }
+{
+    problem.interval(t).net.value() + mode.grid.value()
+}
+
+/// Two numbers with a space between them.
+fn two_numbers(alloc: Global, first: u8, second: i64) -> Result<String, AllocError>
+    ensures { IfOk result (λ text. string_bytes text ≡ decimal first ++ 32 ∷ signed_decimal second) }
+{
+    format!(in alloc; "{first} {second}")
+}
+
+/// The start of an interval, as YYYY-MM-DDTHH:MM.
+fn start_text(alloc: Global, problem: &Problem, t: u32) -> Result<String, AllocError>
+    requires { t < length problem.now.net }
+    ensures { IfOk result (λ text. string_bytes text ≡ start_text problem.now t) }
+{
+    // shows the ranges of the inputs
+    let _count = problem.intervals();
+    let minute = t * problem.minutes() as u32;
+    let date = date_text(alloc, problem.month(), minute / MINUTES_PER_DAY + 1)?;
+    let time = time_text(alloc, minute % MINUTES_PER_DAY)?;
+    format!(in alloc; "{date}T{time}")
+}
