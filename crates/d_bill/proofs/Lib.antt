@@ -4,5 +4,9 @@ mod PartFacts
 mod TierFacts
 mod SlopeFacts
 pub mod LeastFacts
-mod FlowFacts
+mod CountFacts
+mod SizeFacts
 pub mod RuleFacts
+mod WalkFacts
+mod ChargeFacts
+pub mod Laws

@@ -5,4 +5,5 @@ pub mod Totals
 pub mod Bills
 pub mod Prices
 pub mod Slopes
+pub mod Counting
 pub mod Law

@@ -5,9 +5,12 @@
 #![tactic(auto)]
 
 mod arc;
+mod charge;
+mod count;
 mod law;
 mod problem;
 mod tally;
+mod walk;
 
 pub use arc::{Arc, At, Interval};
 pub use law::{least_by_energy, parts_by_slopes, parts_sum};

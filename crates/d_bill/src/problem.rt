@@ -148,6 +148,7 @@ impl Problem {
     pub fn energy(&self, period: u8) -> Option<&Period>
         ensures value { option_map (λ found. found.now) result ≡ period_at self.now.energy period }
         ensures prices { IfSome result (λ found. HasPrices found.now) }
+        ensures range { IsInRange self.now }
     {
         self.energy.entry(period)
     }
