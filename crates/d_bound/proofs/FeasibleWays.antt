@@ -7,7 +7,7 @@ use Rattle.std.proofs.lemmas.Option.{slice_get_within}
 use Rattle.d_num.specs.declared.pot.Pot.{Pot}
 use Rattle.d_num.specs.declared.pot.Pot.TheVariants.{To, NoWay}
 use Rattle.d_num.specs.Pot.{joined}
-use Rattle.d_bill.specs.Inputs.{Inputs, IsInRange}
+use Rattle.d_bill.specs.Inputs.{Inputs}
 use Rattle.d_num.specs.Sums.{sum_of_first}
 use Rattle.d_bill.specs.Schedules.{KeepsRules, KeepsAt, IsFeasible, change_of, level_at}
 use Rattle.d_bill.specs.Flows.{flow_at}
@@ -16,6 +16,7 @@ use Rattle.d_num.proofs.Sums.{sum_more, sum_none}
 use Rattle.d_path.specs.Arcs.{intervals_of, arc_cost, level_after, along, way_cost}
 use Rattle.d_path.proofs.CostLemmas.{along_there}
 use Rattle.d_path.proofs.WayLemmas.{way_length}
+use Rattle.d_bound.specs.Law.{IsFair}
 use Rattle.d_bound.specs.PlanWays.{plan_arcs, rated_cost}
 use Rattle.d_bound.proofs.PlanArcs.{intervals_is, arc_cost_is}
 use Rattle.d_bound.proofs.PlanSteps.{Steps, step_of, keeps_of, mode_within}
@@ -67,7 +68,7 @@ keeps_more i s t here after = record { keeps = λ k from inside. by_order k insi
     by_order k inside (inl same) = subst (λ (n : ℕ). KeepsAt i s n) same here
     by_order k inside (inr later) = after.keeps k later inside
 
-module _ (i : Inputs) (rates : List ℤ) (fine : IsInRange i) (s : List ℕ) where
+module _ (i : Inputs) (rates : List ℤ) (fine : IsFair i) (s : List ℕ) where
   -- after the last interval of a feasible schedule nothing is paid
   at_end : (t level : ℕ) → t ≡ length i.net → i.storage.end ≤ level → way_cost (plan_arcs i rates) t level [] ≡ To (pos 0)
   at_end t level e enough = over t (intervals_of (plan_arcs i rates)) i.storage.end level (e ∙ sym (intervals_is i rates fine)) enough

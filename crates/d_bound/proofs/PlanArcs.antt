@@ -16,11 +16,12 @@ use Rattle.d_num.specs.Amount.{IsWithin}
 use Rattle.d_num.proofs.Products.{product_within}
 use Rattle.d_model.specs.declared.mode.Mode.{Mode}
 use Rattle.d_bill.specs.declared.arc.Arc.{Arc}
-use Rattle.d_bill.specs.Inputs.{Inputs, IsInRange, period_in, sell_at, sell_of}
+use Rattle.d_bill.specs.Inputs.{Inputs, period_in, sell_at}
 use Rattle.d_bill.specs.Flows.{permitted_arc, flow_of, import_of, export_of, arc_of_flow}
 use Rattle.d_bill.specs.Prices.{rate_of}
 use Rattle.d_bill.proofs.RuleFacts.{flow_permitted}
 use Rattle.d_path.specs.Arcs.{intervals_of, arc_cost, next_level, level_after, IsSound}
+use Rattle.d_bound.specs.Law.{IsFair}
 use Rattle.d_bound.specs.PlanWays.{priced, mode_cost, cost_at, mode_costs, move_of, plan_arcs, AreRates}
 use Rattle.d_bound.proofs.RateFacts.{rate_within, sell_within}
 
@@ -52,7 +53,7 @@ module _ (i : Inputs) (rates : List ℤ) where
   costs_all place whole = ap (λ (n : ℕ). map (cost_at i rates) (range_with_len 0 n)) whole
 
   -- the ways have the month's intervals
-  pub intervals_is : IsInRange i → intervals_of (plan_arcs i rates) ≡ length i.net
+  pub intervals_is : IsFair i → intervals_of (plan_arcs i rates) ≡ length i.net
   intervals_is fine =
       let some : 0 < length i.storage.modes = omega (arith, fine.storage.some_mode) in
       ap₂ ◌/◌ costs_long moves_long ∙ mul-div_cancel (length i.net) some
@@ -78,7 +79,7 @@ module _ (i : Inputs) (rates : List ℤ) where
       ap (option_and_then (next_level (plan_arcs i rates) level)) (slice_get-map move_of i.storage.modes m ∙ ap (option_map move_of) none)
 
   -- import and export are at most the battery's limits, so a cost is at most 10^32 in size
-  pub mode_cost_within : (t m : ℕ) → IsInRange i → AreRates rates → IsPotWithin (10 ^ 32) (mode_cost i rates t m)
+  pub mode_cost_within : (t m : ℕ) → IsFair i → AreRates rates → IsPotWithin (10 ^ 32) (mode_cost i rates t m)
   mode_cost_within t m fine fair = by_mode (slice_get i.storage.modes m) refl
     where
       small : (amount most : ℤ) → pos 0 ≤ℤ amount → amount ≤ℤ most → most ≤ℤ pos (10 ^ 10) → IsWithin (10 ^ 10) amount
@@ -97,8 +98,8 @@ module _ (i : Inputs) (rates : List ℤ) where
       by_arc flow None e = tt
       by_arc flow (Some arc) e =
           let facts = flow_permitted i flow arc e in
-          let import : IsWithin (10 ^ 10) arc.import = rw facts.2 (small (import_of flow) i.storage.max_import (low_import flow) facts.0 fine.storage.max_import.1) in
-          let export : IsWithin (10 ^ 10) arc.export = rw facts.2 (small (export_of flow) i.storage.max_export (low_export flow) facts.1 fine.storage.max_export.1) in
+          let import : IsWithin (10 ^ 10) arc.import = rw facts.1.1 (small (import_of flow) i.storage.max_import (low_import flow) facts.0 fine.storage.max_import.1) in
+          let export : IsWithin (10 ^ 10) arc.export = rw facts.1.1 (small (export_of flow) i.storage.max_export (low_export flow) facts.1.0 fine.storage.max_export.1) in
           difference (rate_of rates (period_in i t) *ℤ arc.import) (sell_at i t *ℤ arc.export)
           (product_within (3 * 10 ^ 21) (10 ^ 10) (rate_of rates (period_in i t)) arc.import (rate_within rates (period_in i t) fair) import)
           (product_within (3 * 10 ^ 21) (10 ^ 10) (sell_at i t) arc.export (sell_within i (period_in i t) fine) export)
@@ -108,7 +109,7 @@ module _ (i : Inputs) (rates : List ℤ) where
       by_mode (Some mode) e = rw e (by_arc (flow_of i t mode) (permitted_arc i (flow_of i t mode)) refl)
 
   -- the ways are within the limits
-  pub plan_sound : IsInRange i → AreRates rates → IsSound (plan_arcs i rates)
+  pub plan_sound : IsFair i → AreRates rates → IsSound (plan_arcs i rates)
   plan_sound fine fair = record {
     some_move = omega (arith, moves_long, fine.storage.some_mode);
     few_moves = omega (arith, moves_long, fine.storage.few_modes);

@@ -58,7 +58,7 @@ step_of i rates t m level keeps =
       record {
         leads = level_after_is i rates level m mode keeps.there ∙ changed_some i.storage.floor i.storage.capacity level after.0 mode.low mode.high mode.change keeps.low keeps.high keeps.floor keeps.capacity after.1;
         higher = after.1 ∙ ap (λ (z : ℤ). pos level +ℤ z) (sym moved);
-        costs = ap (priced i rates t) (arc_there i t m mode keeps.there keeps.permitted)
+        costs = ap (priced i rates t) (sym (arc_there i t m mode keeps.there keeps.permitted))
             ∙ ap (λ (z : ℤ). To (step_cost i rates t (net_at i t +ℤ z))) (sym (grid_there i m mode keeps.there));
       },
     )

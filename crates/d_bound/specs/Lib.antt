@@ -1,1 +1,2 @@
 pub mod PlanWays
+pub mod Law

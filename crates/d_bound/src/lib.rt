@@ -3,7 +3,9 @@
 //! It joins the problem of a month to the ways through a battery's levels, and knows no tariff, file or text.
 #![tactic(auto)]
 
+mod law;
 mod least;
 mod rates;
 
+pub use law::has_one_first;
 pub use least::cheapest_schedule;

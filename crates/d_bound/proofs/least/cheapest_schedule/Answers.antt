@@ -1,18 +1,19 @@
 use Rattle.std.proofs.Common.{◌≡◌, ℕ, ℤ, List, [], Option, Some, None, Vec, Global, sym, ap, ◌∙◌, subst}
 use Rattle.std.proofs.lemmas.Result.{IfOk-weaker}
-use Rattle.d_bill.specs.Inputs.{Inputs, IsInRange}
+use Rattle.d_bill.specs.Inputs.{Inputs}
+use Rattle.d_bound.specs.Law.{IsFair}
 use Rattle.d_bill.specs.Slopes.{rates_of}
 use Rattle.d_path.specs.Arcs.{Arcs, arcs_of, intervals_of, way_cost, IsSound}
 use Rattle.d_path.specs.Cheapest.{IsFirstCheapest}
 use Rattle.d_bound.specs.PlanWays.{plan_arcs, mode_costs, IsFoundWay, IsFoundLeast}
-use Rattle.d_bound.proofs.RateFacts.{rates_fair}
+use Rattle.d_bound.proofs.RateFacts.{rates_fair, fair_of}
 use Rattle.d_bound.proofs.PlanArcs.{intervals_is, plan_sound}
 use Rattle.d_bound.proofs.LeastWays.{first_least, none_of_ways}
 use Rattle.d_bound.proofs.least.cheapest_schedule.Goals as goal
 use Rattle.d_bound.proofs.least.cheapest_schedule.Goals.{After-ways-1}
 
 -- what is found of the ways is found of the schedules
-found_is : (i : Inputs) (rates : List ℤ) → IsInRange i → (a : Arcs) (start : ℕ) → a ≡ plan_arcs i rates → start ≡ i.storage.start → (found : Option (Vec ℕ Global)) → IsFoundWay a start found
+found_is : (i : Inputs) (rates : List ℤ) → IsFair i → (a : Arcs) (start : ℕ) → a ≡ plan_arcs i rates → start ≡ i.storage.start → (found : Option (Vec ℕ Global)) → IsFoundWay a start found
     → IsFoundLeast i rates found
 found_is i rates fine a start ways from None none =
     none_of_ways i rates fine (λ s. sym (ap (λ (b : Arcs). way_cost b 0 start s) ways ∙ ap (λ (n : ℕ). way_cost (plan_arcs i rates) 0 n s) from) ∙ none s)
@@ -29,13 +30,13 @@ ways_are c =
 pub first_way-requires-clause-sound : goal.first_way-requires-clause-sound
 first_way-requires-clause-sound c =
     let i = c.args.problem.now in
-    let fine = c.intervals-intervals.ensures.range in
+    let fine = fair_of i c.intervals-intervals.ensures.range in
     subst (λ (a : Arcs). IsSound a) (sym (ways_are (goal.at.first_way-requires-clause-sound c).After-ways-1)) (plan_sound i (rates_of i []) fine (rates_fair i fine))
 
 pub first_way-requires-clause-intervals : goal.first_way-requires-clause-intervals
 first_way-requires-clause-intervals c =
     let i = c.args.problem.now in
-    c.intervals-intervals.ensures.value ∙ sym (intervals_is i (rates_of i []) c.intervals-intervals.ensures.range)
+    c.intervals-intervals.ensures.value ∙ sym (intervals_is i (rates_of i []) (fair_of i c.intervals-intervals.ensures.range))
     ∙ ap (λ (a : Arcs). intervals_of a) (sym (ways_are (goal.at.first_way-requires-clause-intervals c).After-ways-1))
 
 pub returns : goal.returns
@@ -43,4 +44,4 @@ returns c =
     let i = c.args.problem.now in
     let ways = c.ways_of-ways in
     IfOk-weaker c.first_way.result (IsFoundWay (arcs_of ways.result) ways.result.start) (IsFoundLeast i (rates_of i []))
-    (found_is i (rates_of i []) c.intervals-intervals.ensures.range (arcs_of ways.result) ways.result.start (ways_are (goal.at.returns c).After-ways-1) ways.ensures.start) c.first_way.ensures
+    (found_is i (rates_of i []) (fair_of i c.intervals-intervals.ensures.range) (arcs_of ways.result) ways.result.start (ways_are (goal.at.returns c).After-ways-1) ways.ensures.start) c.first_way.ensures
