@@ -20,8 +20,6 @@ mod PlanTexts
 mod PlanLevels
 mod Deciding
 mod DecimalFound
-mod WordPlaces
-mod RequestFound
 mod RecordKept
 mod RecordFound
 mod RecordRates

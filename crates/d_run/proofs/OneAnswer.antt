@@ -5,14 +5,14 @@ use Rattle.d_model.specs.Inputs.{Inputs, IsInRange}
 use Rattle.d_model.specs.Schedules.{IsFeasible, IsFirstBreak}
 use Rattle.d_model.specs.Bills.{IsFirstLeast, bill_of}
 use Rattle.d_model.proofs.Laws.{first_least_same, break_excludes, first_break_same}
-use Rattle.d_run.specs.Words.{Asked, Wanted, IsRequest, plan_with, metered_bill as wants_metered_bill, schedule_bill}
+use Rattle.d_words.specs.Words.{Asked, Wanted, IsRequest, plan_with, metered_bill as wants_metered_bill, schedule_bill}
 use Rattle.d_run.specs.Text.{plan_text, bill_text, break_text}
 use Rattle.d_num.specs.Amount.{IsRate}
 use Rattle.d_tariff.specs.Terms.{Terms}
 use Rattle.d_run.specs.Record.{IsRecord, IsOnePrice}
 use Rattle.d_run.specs.BatteryFile.{IsBatteryFile}
 use Rattle.d_run.specs.ReadingsFile.{Hourly, IsHourly}
-use Rattle.d_run.specs.Answer.{Answer, Reads, is_too_long, is_refused, goes_on, says, after_opening, refused, IsPlanned, no_schedule, least, IsBilled, billed, broken, IsFor, IsPriced, no_price, one_price, IsWithTerms, IsAnswerTo, IsAnswer, no_request, request, hourly_inputs, rows_in, ReadsSchedule, RefusesRecord, RefusesReadings, RefusesBattery, RefusesSchedule, MeansSchedule, longest_file, longest_record}
+use Rattle.d_run.specs.Answer.{Answer, Reads, is_too_long, is_refused, goes_on, says, after_opening, refused, IsPlanned, no_schedule, least, IsBilled, billed, broken, IsFor, IsPriced, no_price, one_price, IsWithTerms, IsAnswerTo, IsAnswer, rule_of, no_request, request, hourly_inputs, rows_in, ReadsSchedule, RefusesRecord, RefusesReadings, RefusesBattery, RefusesSchedule, MeansSchedule, longest_file, longest_record}
 use Rattle.d_run.specs.Law.{HasAnswer}
 use Rattle.d_run.specs.declared.verdict.Verdict.TheVariants as verdict
 use Rattle.d_run.specs.declared.fault.Refusal.{Refusal}
@@ -20,7 +20,7 @@ use Rattle.d_run.specs.declared.fault.Refusal.TheVariants.{Words, LongRecord, Lo
 use Rattle.d_run.proofs.StageFacts.{IsKnown, known_refused, known_value}
 use Rattle.d_run.proofs.LeastWays.{exists_least}
 use Rattle.d_run.proofs.Deciding.{Decided, holds, fails, Found, found, nothing, at_most}
-use Rattle.d_run.proofs.RequestFound.{request_found, one_request}
+use Rattle.d_words.proofs.RequestFound.{request_or_none, one_request}
 use Rattle.d_run.proofs.RecordFound.{record_known}
 use Rattle.d_run.proofs.RecordRates.{price_in_range}
 use Rattle.d_run.proofs.PriceFound.{price_found, price_same}
@@ -149,16 +149,16 @@ module _ (files : Files) (asked : Asked) where
   request_one : HasOne (IsAnswerTo files asked)
   request_one =
       let records = rows_in files asked.records in
-      reads_one files asked.records longest_record LongRecord (RefusesRecord records asked.label asked.rule) (IsRecord records asked.label asked.rule)
-      (IsWithTerms files asked) (record_known records asked.label asked.rule)
+      reads_one files asked.records longest_record LongRecord (RefusesRecord records asked.label (rule_of asked.net_billing)) (IsRecord records asked.label (rule_of asked.net_billing))
+      (IsWithTerms files asked) (record_known records asked.label (rule_of asked.net_billing))
       (λ terms record_is. reads_one files asked.readings longest_file LongReadings (RefusesReadings (rows_in files asked.readings)) (IsHourly (rows_in files asked.readings))
       (λ month. IsPriced terms month (λ price. IsFor files asked.label price month asked.wanted)) (month_known (rows_in files asked.readings))
       (λ month month_is. priced_one terms month (λ price. IsFor files asked.label price month asked.wanted)
-      (λ price one. task_one price month asked.wanted (price_in_range records asked.label asked.rule terms month.year month.number price record_is one) month_is)))
+      (λ price one. task_one price month asked.wanted (price_in_range records asked.label (rule_of asked.net_billing) terms month.year month.number price record_is one) month_is)))
 
 -- to words and files there is one answer
 pub one_answer : (words : List (List ℕ)) (files : Files) → HasAnswer words files
-one_answer words files = by_request (request_found words)
+one_answer words files = by_request (request_or_none words)
   where
     none_only : ((asked : Asked) → IsRequest words asked → ⊥) → (other : Answer) → IsAnswer words files other → other ≡ refused Words
     none_only none other (no_request also is) = is
@@ -168,11 +168,11 @@ one_answer words files = by_request (request_found words)
     asked_only asked is one other (no_request none also) = absurd (none asked is)
     asked_only asked is one other (request a also to) =
         let P : Asked → Type 0 = λ r. IsAnswerTo files r other in
-        one.only other (subst P (one_request also is) to)
+        one.only other (subst P (one_request words a asked also is) to)
 
-    by_request : Found (IsRequest words) → HasAnswer words files
-    by_request (nothing none) = record { answer = refused Words; is = no_request none refl; only = none_only none }
-    by_request (found asked is) =
+    by_request : ((asked : Asked) × IsRequest words asked) ⊎ ((asked : Asked) → IsRequest words asked → ⊥) → HasAnswer words files
+    by_request (inr none) = record { answer = refused Words; is = no_request none refl; only = none_only none }
+    by_request (inl (asked, is)) =
         let one = request_one files asked in
         record { answer = one.answer; is = request asked is one.is; only = asked_only asked is one }
 

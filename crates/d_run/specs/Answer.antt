@@ -1,6 +1,6 @@
 -- What the program answers to a list of words, given the files: a verdict, the text that it prints, and the files that it opens.
 -- The files are read one after the other, and the first that is too long or refused decides.
-use Rattle.std.specs.Prelude.{◌≡◌, ◌⊎◌, ℕ, ◌^◌, ◌<◌, ◌≤◌, ◌++◌, ℤ, pos, List, [], ◌∷◌, length, codes}
+use Rattle.std.specs.Prelude.{◌≡◌, ◌⊎◌, ℕ, ◌^◌, ◌<◌, ◌≤◌, ◌++◌, Bool, true, false, ℤ, pos, List, [], ◌∷◌, length, codes}
 use Rattle.d_desk.specs.Scene.{Files, Opening, opening, bytes_in}
 use Rattle.d_desk.specs.declared.opened.Direction.TheVariants.{In}
 use Rattle.std.specs.Fmt.{decimal}
@@ -8,6 +8,7 @@ use Rattle.d_table.specs.Table.{rows_of, IsRectangular, IsFirstOdd}
 use Rattle.d_tariff.specs.Terms.{Terms}
 use Rattle.d_urdb.specs.declared.fault.Refused.{Refused}
 use Rattle.d_urdb.specs.declared.rule.RuleChoice.{RuleChoice}
+use Rattle.d_urdb.specs.declared.rule.RuleChoice.TheVariants.{AsRecorded, NetBilling}
 use Rattle.d_model.specs.declared.schedule.ScheduleFault.{ScheduleFault}
 use Rattle.d_model.specs.declared.schedule.ScheduleFault.TheVariants.{Shape}
 use Rattle.d_model.specs.Storage.{Storage}
@@ -15,7 +16,7 @@ use Rattle.d_model.specs.Inputs.{Inputs}
 use Rattle.d_model.specs.Schedules.{IsFeasible, IsFirstBreak}
 use Rattle.d_model.specs.Bills.{IsFirstLeast, bill_of, metered_bill}
 use Rattle.d_model.specs.ScheduleFile.{IsScheduleFile, IsScheduleFault}
-use Rattle.d_run.specs.Words.{Asked, Wanted, IsRequest, plan_with, metered_bill as wants_metered_bill, schedule_bill}
+use Rattle.d_words.specs.Words.{Asked, Wanted, IsRequest, plan_with, metered_bill as wants_metered_bill, schedule_bill}
 use Rattle.d_run.specs.Record.{IsRecord, IsRecordFault, IsOnePrice, rows_with_label}
 use Rattle.d_run.specs.RecordText.{record_text}
 use Rattle.d_run.specs.ReadingsFile.{Hourly, IsHourly}
@@ -186,9 +187,14 @@ abbrev pub IsWithTerms : Files → Asked → Terms → Answer → Type 0
 IsWithTerms files asked terms answer =
     ReadsReadings files asked.readings (λ month. IsPriced terms month (λ price. IsFor files asked.label price month asked.wanted)) answer
 
+-- the rule of billing: net billing where it is chosen, else the record's own
+abbrev pub rule_of : Bool → RuleChoice
+rule_of true = NetBilling
+rule_of false = AsRecorded
+
 -- the answer to a request
 abbrev pub IsAnswerTo : Files → Asked → Answer → Type 0
-IsAnswerTo files asked answer = ReadsRecord files asked.records asked.label asked.rule (IsWithTerms files asked) answer
+IsAnswerTo files asked answer = ReadsRecord files asked.records asked.label (rule_of asked.net_billing) (IsWithTerms files asked) answer
 
 -- the answer to a list of words: they are no request, and nothing is opened; or they are, and the files decide
 pub data IsAnswer (words : List (List ℕ)) (files : Files) (answer : Answer) : Type 0 where

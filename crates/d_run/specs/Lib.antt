@@ -1,5 +1,3 @@
-pub mod Words
-pub mod Asking
 pub mod Record
 pub mod Text
 pub mod RecordText

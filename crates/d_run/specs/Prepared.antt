@@ -8,13 +8,13 @@ use Rattle.d_model.specs.declared.battery.Battery.{Battery}
 use Rattle.d_model.specs.declared.meter.Meter.{Meter}
 use Rattle.d_tariff.specs.Shown.{terms_of}
 use Rattle.d_tariff.specs.declared.tariff.Tariff.{Tariff}
-use Rattle.d_run.specs.Asking.{asked_of, wanted_of}
+use Rattle.d_words.specs.Asking.{asked_of, wanted_of}
 use Rattle.d_run.specs.Answer.{Answer, IsAnswerTo, IsWithTerms, IsPriced, IsFor, IsPlanned, IsBilled, ReadsBattery, ReadsSchedule}
 use Rattle.d_run.specs.Replies.{PreparesOne, hourly_of, inputs_with}
 use Rattle.d_run.specs.declared.fault.Fault.{Fault}
 use Rattle.d_run.specs.declared.fault.Fault.TheVariants.{Failed}
 use Rattle.d_run.specs.declared.reply.Reply.{Reply}
-use Rattle.d_run.specs.declared.words.Request.{Request}
+use Rattle.d_words.specs.declared.request.Request.{Request}
 
 -- the desk's count of faults didn't fall, and it rose where the run stops since the desk failed
 pub record IsCaused {T : Type 0} (before now : ℕ) (result : Result T Fault) : Type 0 where

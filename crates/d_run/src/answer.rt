@@ -4,7 +4,7 @@ ghost use Rattle.std.specs.Prelude.{◌≡◌, ℕ, ◌≤◌, length, map, stri
 ghost use Rattle.d_desk.specs.Cause.{Rose, HasCause};
 ghost use Rattle.d_model.specs.Inputs.{IsInRange};
 ghost use Rattle.d_model.specs.Shown.{inputs_of};
-ghost use Rattle.d_run.specs.Answer.{IsAnswer, refused, longest_record};
+ghost use Rattle.d_run.specs.Answer.{IsAnswer, refused, longest_record, rule_of};
 ghost use Rattle.d_run.specs.Runs.{Runs, status_of};
 ghost use Rattle.d_run.specs.Replies.{EndsBy, LoadStage, RecordStage, ReadingsStage, BatteryStage, ScheduleStage, Replies};
 ghost use Rattle.d_run.specs.Prepared.{IsCaused, Prepares, IsRequested, IsWithTariff, IsWithMeter, IsWithPrice, Plans, Bills, BillsWith, BillsSchedule};
@@ -19,12 +19,12 @@ use crate::record::read_record;
 use crate::reply::Reply;
 use crate::schedule::read_modes;
 use crate::verdict::{Status, Verdict};
-use crate::words::{Request, Task, read_words};
 use d_desk::{Desk, DeskFault, LoadFault, load_file, print_all};
 use d_model::{Battery, Meter, Problem};
 use d_num::Rate;
 use d_tariff::Tariff;
 use d_urdb::RuleChoice;
+use d_words::{Request, Task, read_words};
 use std::alloc::Global;
 
 // The greatest sizes of the record file, and of the other files, in bytes.
@@ -98,8 +98,20 @@ fn answer_request<D: Desk>(
     ensures told { D.tells → Prepares (IsRequested request.now) (D.scene desk.old) (D.scene desk.new) result }
     ensures cause { IsCaused (D.faults desk.old) (D.faults desk.new) result }
 {
-    let tariff = load_record(alloc, desk, request.records, request.label, request.rule)?;
+    let rule = rule_of(request.net_billing);
+    let tariff = load_record(alloc, desk, request.records, request.label, rule)?;
     answer_with_tariff(alloc, desk, request, &tariff)
+}
+
+/// The rule of billing: net billing where it is chosen, else the record's own.
+fn rule_of(net_billing: bool) -> RuleChoice
+    ensures { result ≡ rule_of net_billing }
+{
+    if net_billing {
+        RuleChoice::NetBilling
+    } else {
+        RuleChoice::AsRecorded
+    }
 }
 
 /// Prepares the answer where the tariff is known: the readings file comes next.

@@ -25,7 +25,6 @@ mod reply;
 mod schedule;
 mod text;
 mod verdict;
-mod words;
 
 pub use answer::run;
 pub use law::answers_once;

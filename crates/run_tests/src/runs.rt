@@ -71,7 +71,7 @@ fn a_long_file_is_told_as_such(rt: HostRuntime) -> Result<(), Fail> {
 }
 
 #[test]
-fn net_billing_is_chosen_by_the_last_words(rt: HostRuntime) -> Result<(), Fail> {
+fn net_billing_is_chosen_by_the_words_behind_the_battery(rt: HostRuntime) -> Result<(), Fail> {
     let alloc = rt.alloc();
     let cases = "--battery battery --rule net-billing>0 2025-02-28T23:00 idle 0 1000\
         |--battery battery --rule net-metering>1 refused words 23 NotYet\

@@ -1,6 +1,6 @@
 use Rattle.std.proofs.Common.{ℤ}
 use Rattle.d_tariff.specs.Shown.{terms_of}
-use Rattle.d_run.specs.Asking.{wanted_of}
+use Rattle.d_words.specs.Asking.{wanted_of}
 use Rattle.d_run.specs.Answer.{IsFor}
 use Rattle.d_run.specs.Replies.{hourly_of}
 use Rattle.d_run.proofs.PriceStages.{priced_prepares, unpriced_prepares}

@@ -2,7 +2,7 @@ use Rattle.std.proofs.Common.{subst}
 use Rattle.std.proofs.lemmas.Result.{err_from_is_err_and}
 use Rattle.d_desk.specs.Scene.{Files}
 use Rattle.d_model.specs.declared.meter.Meter.{Meter}
-use Rattle.d_run.specs.Asking.{asked_of}
+use Rattle.d_words.specs.Asking.{asked_of}
 use Rattle.d_run.specs.ReadingsFile.{Hourly, IsHourly}
 use Rattle.d_tariff.specs.Shown.{terms_of}
 use Rattle.d_run.specs.Answer.{IsFor, IsPriced, RefusesReadings, rows_in, longest_file}

@@ -1,5 +1,5 @@
 use Rattle.std.proofs.Common.{map, string_bytes}
-use Rattle.d_run.specs.Asking.{asked_of}
+use Rattle.d_words.specs.Asking.{asked_of}
 use Rattle.d_run.specs.Answer.{IsAnswer, IsAnswerTo, request}
 use Rattle.d_run.proofs.StageFacts.{prepares_as}
 use Rattle.d_run.proofs.RequestAnswers.{asked_answer}

@@ -1,0 +1,4 @@
+mod Deciding
+mod PeakTexts
+mod WordPlaces
+pub mod RequestFound
