@@ -1,7 +1,7 @@
 //! A table of demand with the least power that it charges.
 
-ghost use Rattle.std.specs.Prelude.{◌≡◌, ℕ, ◌*◌, ◌^◌, All};
-ghost use Rattle.d_num.specs.Amount.{IsWithin};
+ghost use Rattle.std.specs.Prelude.{◌≡◌, ℕ, ◌*◌, All};
+ghost use Rattle.d_num.specs.Amount.{IsUpTo, IsWithin};
 ghost use Rattle.d_tier.specs.Charges.{peak_charge};
 
 use crate::tiers::Tiers;
@@ -20,7 +20,8 @@ impl Peak {
     /// What a highest demand is charged: the tiers' charge of it, or of the floor where that is greater.
     pub fn charge(&self, power: Watt) -> Money
         ensures value { result ≡ peak_charge self.now power }
-        ensures size { (m : ℕ) → All (λ tier. IsWithin m tier.price) self.now.tiers → IsWithin (m * 10 ^ 13) result }
+        ensures size { (m n : ℕ) → All (λ tier. IsWithin m tier.price) self.now.tiers → IsUpTo n power → IsUpTo n self.now.floor
+            → IsWithin (m * n) result }
     {
         self.tiers.charge(power.value().max(self.floor.value()))
     }

@@ -1,0 +1,12 @@
+mod Values
+mod RangeFacts
+mod PartFacts
+mod TierFacts
+mod SlopeFacts
+pub mod LeastFacts
+mod CountFacts
+mod SizeFacts
+pub mod RuleFacts
+mod WalkFacts
+mod ChargeFacts
+pub mod Laws

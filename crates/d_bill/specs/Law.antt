@@ -1,0 +1,27 @@
+-- What holds of all problems.
+use Rattle.std.specs.Prelude.{◌≡◌, ℕ, ℤ, ◌+ℤ◌, List, []}
+use Rattle.d_bill.specs.Inputs.{Inputs, IsInRange}
+use Rattle.d_bill.specs.Totals.{tally_by}
+use Rattle.d_bill.specs.Bills.{sum_of, group_charges, IsFirstLeast, IsLeast}
+use Rattle.d_bill.specs.Prices.{cost_of_flow, rate_gaps}
+use Rattle.d_bill.specs.Slopes.{tiered, rates_of, tier_gaps, energy_cost}
+
+-- whatever the rates are, a bill's sum is the fixed charge and the groups' charges, and to that what the intervals cost at the rates
+-- and by how much the periods' charges are more than that
+abbrev pub IsPartedSum : Type 0
+IsPartedSum = (i : Inputs) (rates : List ℤ) (flow : ℕ → ℤ) → IsInRange i
+    → sum_of i (tally_by i flow) ≡ (i.fixed +ℤ group_charges i (tally_by i flow)) +ℤ (rate_gaps i rates (tally_by i flow) +ℤ cost_of_flow i rates flow)
+
+-- the same with a slope for each tiered period: no other period's charge is more or less than its import at its price
+abbrev pub IsPartedBySlopes : Type 0
+IsPartedBySlopes = (i : Inputs) (slopes : List ℤ) (flow : ℕ → ℤ) → IsInRange i
+    → sum_of i (tally_by i flow) ≡ (i.fixed +ℤ group_charges i (tally_by i flow)) +ℤ (tier_gaps i slopes (tally_by i flow) +ℤ cost_of_flow i (rates_of i slopes) flow)
+
+-- no group, and no tiered period
+pub record IsPlain (i : Inputs) : Type 0 where
+  pub groups : i.peaks ≡ []
+  pub tiers : tiered i ≡ []
+
+-- of such a problem the first of the schedules whose energy costs least has the least bill, also where bills are raised to a minimum
+abbrev pub IsLeastByEnergy : Type 0
+IsLeastByEnergy = (i : Inputs) (s : List ℕ) → IsInRange i → IsPlain i → IsFirstLeast i (energy_cost i) s → IsLeast i s

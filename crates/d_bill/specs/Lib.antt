@@ -1,0 +1,9 @@
+pub mod Inputs
+pub mod Flows
+pub mod Schedules
+pub mod Totals
+pub mod Bills
+pub mod Prices
+pub mod Slopes
+pub mod Counting
+pub mod Law

@@ -1,0 +1,91 @@
+//! What is charged for a tally.
+
+use crate::problem::Problem;
+use crate::tally::Tally;
+use d_num::Money;
+
+impl Problem {
+    ghost use Rattle.std.specs.Prelude.{◌≡◌, ℕ, ◌*◌, ◌^◌, ◌<◌, pos, unsigned_abs, length, slice_index_or};
+    ghost use Rattle.d_num.specs.Amount.{IsWithin};
+    ghost use Rattle.d_num.specs.Sums.{sum_of_first};
+    ghost use Rattle.d_bill.specs.Totals.{IsTallied};
+    ghost use Rattle.d_bill.specs.Bills.{sum_of, bill_by, period_charge, group_charge, group_charges};
+    ghost use Rattle.d_bill.specs.Counting.{group_limit};
+
+    /// The bill of a tally that `walk` or `metered` of this problem wrote: the sum, or the minimum where that is greater. Without a
+    /// minimum it may be below 0. It is at most 10^14 USD in size.
+    pub fn bill(&self, tally: &Tally) -> Money
+        requires { IsTallied self.now tally.now }
+        ensures value { result ≡ bill_by self.now tally.now }
+        ensures range { IsWithin (10 ^ 35) result }
+    {
+        let sum = self.sum(tally);
+        match self.minimum {
+            Some(minimum) => minimum.greatest(sum),
+            None => sum,
+        }
+    }
+
+    /// What is charged for a tally that `walk` or `metered` of this problem wrote: the fixed charge, what the energy periods charge for
+    /// their imports and the groups for their highest demands, less what is paid for the export. It is at most 10^14 USD in size.
+    pub fn sum(&self, tally: &Tally) -> Money
+        requires { IsTallied self.now tally.now }
+        ensures value { result ≡ sum_of self.now tally.now }
+        ensures range { IsWithin (10 ^ 35) result }
+    {
+        let periods = self.period_charges(tally);
+        let groups = self.group_charges(tally);
+        self.fixed().plus(periods).minus(tally.credit).plus(groups)
+    }
+
+    /// What all periods charge.
+    fn period_charges(&self, tally: &Tally) -> Money
+        requires { IsTallied self.now tally.now }
+        ensures value { result ≡ sum_of_first 36 (period_charge self.now tally.now) }
+        ensures small { (number : ℕ) → number < 36
+            → IsWithin (3 * 10 ^ 21 * unsigned_abs (slice_index_or tally.now.totals number (pos 0))) (period_charge self.now tally.now number) }
+    {
+        let mut sum = Money::new(0).unwrap();
+        for period in 0..36u8 {
+            sum = sum.plus(self.period_charge(tally, period));
+        }
+        sum
+    }
+
+    /// What a period charges for its import.
+    fn period_charge(&self, tally: &Tally, period: u8) -> Money
+        requires tally { IsTallied self.now tally.now }
+        requires period { period < 36 }
+        ensures value { result ≡ period_charge self.now tally.now period }
+        ensures small { IsWithin (3 * 10 ^ 21 * unsigned_abs (slice_index_or tally.now.totals period (pos 0))) result }
+    {
+        let total = tally.totals[period as usize].value();
+        match self.energy(period) {
+            Some(found) => found.tiers.charge(total),
+            None => Money::new(0).unwrap(),
+        }
+    }
+
+    /// What all groups charge.
+    fn group_charges(&self, tally: &Tally) -> Money
+        requires { IsTallied self.now tally.now }
+        ensures value { result ≡ group_charges self.now tally.now }
+        ensures small { (group : ℕ) → group < length self.now.peaks → IsWithin (group_limit self.now group) (group_charge self.now tally.now group) }
+    {
+        let mut sum = Money::new(0).unwrap();
+        for group in 0..self.groups().len() {
+            sum = sum.plus(self.group_charge(tally, group));
+        }
+        sum
+    }
+
+    /// What a group charges for its highest demand.
+    fn group_charge(&self, tally: &Tally, group: usize) -> Money
+        requires tally { IsTallied self.now tally.now }
+        requires group { group < length self.now.peaks }
+        ensures value { result ≡ group_charge self.now tally.now group }
+        ensures small { IsWithin (group_limit self.now group) result }
+    {
+        self.groups()[group].charge(tally.peaks[group])
+    }
+}

@@ -1,0 +1,20 @@
+//! What holds of all problems, whatever goes through the meter.
+
+ghost use Rattle.d_bill.specs.Law.{IsPartedSum, IsPartedBySlopes, IsLeastByEnergy};
+
+/// A bill's sum in parts, at any rates of the energy periods: the fixed charge and the groups' charges, what the intervals cost at the
+/// rates, and by how much the periods' charges are more than that.
+pub fn parts_sum()
+    ensures { IsPartedSum }
+{}
+
+/// The same with rates for the tiered periods alone: all others charge their one price.
+pub fn parts_by_slopes()
+    ensures { IsPartedBySlopes }
+{}
+
+/// Where there is no group and no tiered period, the first of the schedules whose energy costs least has the least bill, also where
+/// bills are raised to a minimum.
+pub fn least_by_energy()
+    ensures { IsLeastByEnergy }
+{}
