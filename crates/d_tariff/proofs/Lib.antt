@@ -1,2 +1,3 @@
 mod EntryFacts
 mod HourFacts
+mod MonthFacts

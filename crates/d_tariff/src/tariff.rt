@@ -5,7 +5,11 @@ ghost use Rattle.d_tariff.specs.Terms.{IsTariff};
 use crate::charge::Charge;
 use crate::period::{Columns, Period, Periods, TierLists};
 use d_cal::{Month, Schedule};
+use d_num::{Money, Watt};
 use d_tier::Tiers;
+
+// 1, as fractions have it.
+const WHOLE: u128 = 100_000_000_000_000_000_000;
 
 /// The tariff of a record. A contract sees it as `terms_of` shows it.
 #[derive(Drop)]
@@ -52,9 +56,11 @@ pub struct Tariff {
 }
 
 impl Tariff {
-    ghost use Rattle.std.specs.Prelude.{◌≡◌, ◌<◌, Some, option_map, IfSome};
+    ghost use Rattle.std.specs.Prelude.{◌≡◌, ◌<◌, ◌*◌, ◌^◌, ◌≤ℤ◌, Some, option_map, IfSome};
+    ghost use Rattle.d_num.specs.Amount.{IsWithin};
     ghost use Rattle.d_cal.specs.Calendar.{IsDayOf};
     ghost use Rattle.d_tariff.specs.Terms.{HasEnergyPrices, HasDemandPrices, period_at, tiers_at, energy_at, flat_tiers_in};
+    ghost use Rattle.d_tariff.specs.Months.{fixed_of, minimum_of, floor_of};
     ghost use Rattle.d_tariff.specs.Shown.{terms_of};
 
     /// The energy period of that number, or None exactly where there is none.
@@ -95,5 +101,33 @@ impl Tariff {
     {
         self.flat
             .entry(self.flat_months[(month.number - 1) as usize])
+    }
+
+    /// What is charged for a month whatever is used (`fixedchargefirstmeter`): a charge by day for each of its days, one by month once, and
+    /// a twelfth of one by year, rounded down to a whole unit of money.
+    pub fn fixed_of(&self, month: Month) -> Money
+        ensures value { result ≡ fixed_of (terms_of self.now) month.year month.number }
+        ensures size { IsWithin (31 * 10 ^ 30) result }
+    {
+        self.fixed.of_month(month)
+    }
+
+    /// What a month's bill is at least (`mincharge`): by day for each of its days, by month once; None exactly where there is no minimum.
+    pub fn minimum_of(&self, month: Month) -> Option<Money>
+        ensures value { result ≡ minimum_of (terms_of self.now) month.year month.number }
+        ensures size { IfSome result (IsWithin (31 * 10 ^ 30)) }
+    {
+        Some(self.minimum?.of_month(month))
+    }
+
+    /// The flat demand that a month is billed for at least (`lookbackpercent`, `demandratchetpercentage`): the month's fraction of an
+    /// earlier peak, rounded down to whole watts.
+    pub fn floor_of(&self, month: Month, prior: Watt) -> Watt
+        ensures value { result ≡ floor_of (terms_of self.now) month.number prior }
+        ensures most { result ≤ℤ prior }
+    {
+        let fraction = self.ratchet[(month.number - 1) as usize];
+        let floor = fraction * prior.value() as u128 / WHOLE;
+        Watt::new(floor as i64).unwrap()
     }
 }

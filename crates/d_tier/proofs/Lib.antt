@@ -1,3 +1,4 @@
 mod PriceFacts
 mod TableFacts
 mod ChargeFacts
+mod JoinFacts

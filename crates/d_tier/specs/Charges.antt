@@ -1,5 +1,7 @@
 -- What an amount is charged by marginal tiers: each tier's price for the part of the amount that lies in the tier.
-use Rattle.std.specs.Prelude.{ℤ, pos, ◌+ℤ◌, ◌-ℤ◌, ◌*ℤ◌, List, [], ◌∷◌, Option, Some, None, unwrap_or}
+use Rattle.std.specs.Prelude.{ℤ, pos, ◌+ℤ◌, ◌-ℤ◌, ◌*ℤ◌, Bool, not, List, [], ◌∷◌, Option, Some, None, unwrap_or}
+use Rattle.std.specs.List.{list_any}
+use Rattle.std.specs.Ordering.{int_eq}
 use Rattle.std.specs.Int.{int_max, int_min}
 use Rattle.d_tier.specs.declared.peak.Peak.{Peak}
 use Rattle.d_tier.specs.declared.tier.Tier.{Tier}
@@ -25,3 +27,7 @@ tier_charge tiers x = charge_from (pos 0) tiers x
 -- the charge of a highest demand: that of the demand or of the floor, whichever is greater
 abbrev pub peak_charge : Peak → ℤ → ℤ
 peak_charge peak power = tier_charge peak.tiers (int_max power peak.floor)
+
+-- some tier has a price other than 0
+abbrev pub has_price : List Tier → Bool
+has_price tiers = list_any (λ tier. not (int_eq tier.price (pos 0))) tiers

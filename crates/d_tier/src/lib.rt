@@ -4,10 +4,12 @@
 //! nothing here takes memory.
 #![tactic(auto)]
 
+mod law;
 mod peak;
 mod tier;
 mod tiers;
 
+pub use law::joining_keeps_charges;
 pub use peak::Peak;
 pub use tier::Tier;
 pub use tiers::Tiers;

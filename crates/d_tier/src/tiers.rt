@@ -2,7 +2,7 @@
 
 ghost use Rattle.std.specs.Prelude.{◌≡◌, ◌↔◌, ℕ, ◌+◌, ◌*◌, ◌^◌, ◌<◌, ◌≤◌, [], ◌∷◌, length, pos, ◌<ℤ◌, ◌≤ℤ◌, IsNone, IfSome, All};
 ghost use Rattle.d_num.specs.Amount.{IsUpTo, IsWithin};
-ghost use Rattle.d_tier.specs.Charges.{part_end, tier_charge};
+ghost use Rattle.d_tier.specs.Charges.{part_end, tier_charge, has_price};
 ghost use Rattle.d_tier.specs.Tables.{AreTiersFrom, IsTierTable, IsTierEnd, IsLowestPrice, IsHighestPrice, open_tier, with_tier, last_end, price_at, end_at};
 
 use crate::tier::Tier;
@@ -100,6 +100,15 @@ impl Tiers {
         ensures { IsHighestPrice self.now result }
     {
         highest_of(&self.tiers[..self.count])
+    }
+
+    /// Whether some tier has a price other than 0.
+    pub fn is_charged(&self) -> bool
+        ensures { result ≡ has_price self.now }
+    {
+        self.tiers[..self.count]
+            .iter()
+            .any(|tier| tier.price.units() != 0)
     }
 
     /// What an amount is charged: each tier's price for the part of the amount that lies in it. The amount is in Wh or W, from 0 to

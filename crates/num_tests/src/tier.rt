@@ -1,7 +1,7 @@
 //! A table of tiers.
 
-use d_num::Rate;
-use d_tier::Tiers;
+use d_num::{Rate, Watt};
+use d_tier::{Peak, Tiers};
 use std::process::Abort;
 
 #[test]
@@ -21,6 +21,42 @@ fn neighbours_of_one_price_are_joined(rt: HostRuntime) {
         (tiers.lowest_price().units(), tiers.highest_price().units()),
         (5, 8)
     );
+}
+
+#[test]
+fn each_tier_charges_its_part_of_an_amount(rt: HostRuntime) {
+    let cent = 10_000_000_000_000_000;
+    let tiers = table(&rt, 10 * cent, &[(500_000, 20 * cent)]);
+    let cents = [
+        (0, 0),
+        (500_000, 5_000_000),
+        (500_001, 5_000_020),
+        (672_000, 8_440_000),
+    ];
+    for (amount, want) in cents {
+        assert!(rt; 0 <= amount && amount <= 672_000);
+        assert_eq!(rt; tiers.charge(amount).units(), want * cent, "of {amount} Wh");
+    }
+}
+
+#[test]
+fn a_peak_is_charged_from_its_floor_on(rt: HostRuntime) {
+    let peak = Peak {
+        tiers: table(&rt, 3, &[(2_000, 5)]),
+        floor: watts(&rt, 2_500),
+    };
+    for (power, want) in [(0, 8_500), (2_500, 8_500), (2_501, 8_505)] {
+        assert_eq!(rt;
+            peak.charge(watts(&rt, power)).units(),
+            want,
+            "of {power} W"
+        );
+    }
+}
+
+/// A power of so many watts, which is there.
+fn watts(rt: &impl Abort, value: i64) -> Watt {
+    Watt::new(value).expect(rt, "a power")
 }
 
 /// The table of a first price and of further ends and prices.

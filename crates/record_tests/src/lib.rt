@@ -7,6 +7,8 @@ mod cases;
 #[cfg(test)]
 mod columns;
 #[cfg(test)]
+mod months;
+#[cfg(test)]
 mod order;
 #[cfg(test)]
 mod records;

@@ -1,0 +1,8 @@
+//! What holds of all tables.
+
+ghost use Rattle.d_tier.specs.Joined.{JoiningKeepsCharges};
+
+/// A table, in which neighbours of one price are one tier, charges every amount as the tiers that it was made of do, each by itself.
+pub fn joining_keeps_charges()
+    ensures { JoiningKeepsCharges }
+{}
