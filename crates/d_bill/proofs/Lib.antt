@@ -10,3 +10,7 @@ pub mod RuleFacts
 mod WalkFacts
 mod ChargeFacts
 pub mod Laws
+mod ModeNames
+mod ScheduleRows
+mod ScheduleLaws
+pub mod ScheduleFound

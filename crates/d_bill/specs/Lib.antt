@@ -7,3 +7,5 @@ pub mod Prices
 pub mod Slopes
 pub mod Counting
 pub mod Law
+pub mod ScheduleFile
+pub mod ScheduleLaw

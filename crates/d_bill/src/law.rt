@@ -1,6 +1,7 @@
 //! What holds of all problems, whatever goes through the meter.
 
 ghost use Rattle.d_bill.specs.Law.{IsPartedSum, IsPartedBySlopes, IsLeastByEnergy};
+ghost use Rattle.d_bill.specs.ScheduleLaw.{IsReadOnce};
 
 /// A bill's sum in parts, at any rates of the energy periods: the fixed charge and the groups' charges, what the intervals cost at the
 /// rates, and by how much the periods' charges are more than that.
@@ -17,4 +18,9 @@ pub fn parts_by_slopes()
 /// bills are raised to a minimum.
 pub fn least_by_energy()
     ensures { IsLeastByEnergy }
+{}
+
+/// The rows of every table are one schedule of a month and its battery and right, or are refused for one cause.
+pub fn reads_once()
+    ensures { IsReadOnce }
 {}

@@ -9,10 +9,12 @@ mod charge;
 mod count;
 mod law;
 mod problem;
+mod schedule;
 mod tally;
 mod walk;
 
 pub use arc::{Arc, At, Interval};
-pub use law::{least_by_energy, parts_by_slopes, parts_sum};
+pub use law::{least_by_energy, parts_by_slopes, parts_sum, reads_once};
 pub use problem::Problem;
+pub use schedule::{ScheduleFault, read_schedule};
 pub use tally::Tally;

@@ -1,11 +1,4 @@
 pub mod Storage
 pub mod Readings
-pub mod Inputs
-pub mod Flows
-pub mod Schedules
-pub mod Totals
-pub mod Bills
 pub mod Shown
 pub mod Starts
-pub mod ScheduleFile
-pub mod Law

@@ -1,5 +1,0 @@
-use Rattle.d_model.proofs.ScheduleFound.{read_once}
-use Rattle.d_model.proofs.law.reads_once.Goals as goal
-
-pub returns : goal.returns
-returns c = read_once
