@@ -9,23 +9,30 @@ use Rattle.d_tariff.specs.Terms.{Terms}
 use Rattle.d_urdb.specs.declared.fault.Refused.{Refused}
 use Rattle.d_urdb.specs.declared.rule.RuleChoice.{RuleChoice}
 use Rattle.d_urdb.specs.declared.rule.RuleChoice.TheVariants.{AsRecorded, NetBilling}
-use Rattle.d_model.specs.declared.schedule.ScheduleFault.{ScheduleFault}
-use Rattle.d_model.specs.declared.schedule.ScheduleFault.TheVariants.{Shape}
+use Rattle.d_bill.specs.declared.schedule.ScheduleFault.{ScheduleFault}
+use Rattle.d_bill.specs.declared.schedule.ScheduleFault.TheVariants.{Shape}
 use Rattle.d_model.specs.Storage.{Storage}
-use Rattle.d_model.specs.Inputs.{Inputs}
-use Rattle.d_model.specs.Schedules.{IsFeasible, IsFirstBreak}
-use Rattle.d_model.specs.Bills.{IsFirstLeast, bill_of, metered_bill}
-use Rattle.d_model.specs.ScheduleFile.{IsScheduleFile, IsScheduleFault}
+use Rattle.d_bill.specs.Inputs.{Inputs}
+use Rattle.d_bill.specs.Schedules.{IsFeasible, IsFirstBreak}
+use Rattle.d_bill.specs.Bills.{IsFirstLeast, IsLeast}
+use Rattle.d_bill.specs.Join.{join_of}
+use Rattle.d_bill.specs.Slopes.{tiered, energy_cost}
+use Rattle.d_bill.specs.Totals.{tally_of, metered_tally}
+use Rattle.d_bill.specs.Law.{IsPlain}
+use Rattle.d_bill.specs.ScheduleFile.{IsScheduleFile, IsScheduleFault}
 use Rattle.d_words.specs.Words.{Asked, Wanted, IsRequest, plan_with, metered_bill as wants_metered_bill, schedule_bill}
-use Rattle.d_run.specs.Record.{IsRecord, IsRecordFault, IsOnePrice, rows_with_label}
+use Rattle.d_run.specs.Record.{IsRecord, IsRecordFault, rows_with_label}
 use Rattle.d_run.specs.RecordText.{record_text}
 use Rattle.d_run.specs.ReadingsFile.{Hourly, IsHourly}
 use Rattle.d_run.specs.BatteryFile.{IsBatteryFile}
-use Rattle.d_run.specs.Text.{line, plan_text, bill_text, break_text, schedule_fault_text}
+use Rattle.d_report.specs.Lines.{line}
+use Rattle.d_report.specs.Charges.{bill_text}
+use Rattle.d_report.specs.Plans.{plan_text}
+use Rattle.d_run.specs.Text.{break_text, schedule_fault_text}
 use Rattle.d_run.specs.declared.verdict.Verdict.{Verdict}
 use Rattle.d_run.specs.declared.verdict.Verdict.TheVariants as verdict
 use Rattle.d_run.specs.declared.fault.Refusal.{Refusal}
-use Rattle.d_run.specs.declared.fault.Refusal.TheVariants.{Words, LongRecord, RecordShape, LongReadings, Readings, NotYet, LongBattery, Battery, LongSchedule, Schedule}
+use Rattle.d_run.specs.declared.fault.Refusal.TheVariants.{Words, LongRecord, RecordShape, LongReadings, Readings, GroupsNotYet, TiersNotYet, LongBattery, Battery, LongSchedule, Schedule}
 
 -- a verdict, the text that is printed, and the files that are opened, in order
 pub record Answer : Type 0 where
@@ -48,7 +55,8 @@ refusal_verdict LongRecord = verdict.Record
 refusal_verdict (RecordShape row) = verdict.Record
 refusal_verdict LongReadings = verdict.Readings
 refusal_verdict Readings = verdict.Readings
-refusal_verdict NotYet = verdict.Record
+refusal_verdict GroupsNotYet = verdict.Record
+refusal_verdict TiersNotYet = verdict.Record
 refusal_verdict LongBattery = verdict.Battery
 refusal_verdict Battery = verdict.Battery
 refusal_verdict LongSchedule = verdict.Battery
@@ -61,7 +69,8 @@ refusal_text LongRecord = line (codes "refused record 0 TooLong")
 refusal_text (RecordShape row) = line (codes "refused record 0 Shape " ++ decimal row)
 refusal_text LongReadings = line (codes "refused readings 0 TooLong")
 refusal_text Readings = line (codes "refused readings 23 NotYet")
-refusal_text NotYet = line (codes "refused record 23 NotYet none 1")
+refusal_text GroupsNotYet = line (codes "refused record 23 NotYet none 2")
+refusal_text TiersNotYet = line (codes "refused record 23 NotYet none 3")
 refusal_text LongBattery = line (codes "refused battery 0 TooLong")
 refusal_text Battery = line (codes "refused battery 23 NotYet")
 refusal_text LongSchedule = line (codes "refused schedule 0 TooLong")
@@ -135,10 +144,9 @@ abbrev pub ReadsSchedule : Files → List ℕ → Inputs → (List ℕ → Answe
 ReadsSchedule files name i Next answer =
     Reads files name longest_file LongSchedule (RefusesSchedule i (rows_in files name)) (MeansSchedule i (rows_in files name)) Next answer
 
--- what is planned or billed: the price, a month of hourly readings and a battery
-abbrev pub hourly_inputs : ℤ → Hourly → Storage → Inputs
-hourly_inputs price month storage =
-    record { year = month.year; number = month.number; minutes = 60; net = month.net; price = price; storage = storage }
+-- what is planned or billed: a tariff's terms, a month of hourly readings, the highest flat demand of earlier months, and a battery
+abbrev pub joined : Terms → Hourly → ℤ → Storage → Inputs
+joined terms month prior storage = join_of terms month.year month.number 60 month.net storage prior
 
 -- no battery: no level but 0, and one mode that changes nothing
 abbrev pub no_storage : Storage
@@ -152,40 +160,42 @@ no_storage = record {
   modes = record { name = codes "idle"; change = pos 0; grid = pos 0; low = 0; high = 255 } ∷ [];
 }
 
--- the answer to a request for a plan: the first least schedule, or that no schedule is feasible
+-- the answer to a request for a plan: the first of the schedules whose energy costs least, whose bill is then the least too; or that no
+-- schedule is feasible
 pub data IsPlanned (i : Inputs) (label : List ℕ) (answer : Answer) : Type 0 where
   no_schedule : ((schedule : List ℕ) → IsFeasible i schedule → ⊥) → answer ≡ says verdict.NoSchedule (line (codes "no schedule"))
       → IsPlanned i label answer
-  least : (schedule : List ℕ) → IsFirstLeast i schedule → answer ≡ says verdict.Done (plan_text i label schedule) → IsPlanned i label answer
+  least : (schedule : List ℕ) → IsFirstLeast i (energy_cost i) schedule → IsLeast i schedule
+      → answer ≡ says verdict.Done (plan_text i label schedule) → IsPlanned i label answer
+
+-- a month is planned where no group of its intervals is charged for its highest demand and none of its energy periods is tiered; others are
+-- refused, and this is told before a battery is looked at
+pub data IsPlannable (i : Inputs) (Next : Answer → Type 0) (answer : Answer) : Type 0 where
+  has_group : (i.peaks ≡ [] → ⊥) → answer ≡ refused GroupsNotYet → IsPlannable i Next answer
+  has_tiers : i.peaks ≡ [] → (tiered i ≡ [] → ⊥) → answer ≡ refused TiersNotYet → IsPlannable i Next answer
+  is_plain : IsPlain i → Next answer → IsPlannable i Next answer
 
 -- the answer to a request for the bill of a schedule: the bill, or the first interval in which it breaks a rule
 pub data IsBilled (i : Inputs) (label schedule : List ℕ) (answer : Answer) : Type 0 where
-  billed : IsFeasible i schedule → answer ≡ says verdict.Done (bill_text i label (bill_of i schedule)) → IsBilled i label schedule answer
+  billed : IsFeasible i schedule → answer ≡ says verdict.Done (bill_text i label (tally_of i schedule)) → IsBilled i label schedule answer
   broken : (t : ℕ) → IsFirstBreak i schedule t → answer ≡ says verdict.NoSchedule (break_text t) → IsBilled i label schedule answer
 
 -- the answer to a request for the bill of the readings alone
 abbrev pub IsMeteredBill : Inputs → List ℕ → Answer → Type 0
-IsMeteredBill i label answer = answer ≡ says verdict.Done (bill_text i label (metered_bill i))
+IsMeteredBill i label answer = answer ≡ says verdict.Done (bill_text i label (metered_tally i))
 
--- the answer where price and month are known
-abbrev pub IsFor : Files → List ℕ → ℤ → Hourly → Wanted → Answer → Type 0
-IsFor files label price month (plan_with battery) answer =
-    ReadsBattery files battery (λ storage. IsPlanned (hourly_inputs price month storage) label) answer
-IsFor files label price month wants_metered_bill answer = IsMeteredBill (hourly_inputs price month no_storage) label answer
-IsFor files label price month (schedule_bill battery schedule) answer =
-    ReadsBattery files battery (λ storage.
-    ReadsSchedule files schedule (hourly_inputs price month storage) (IsBilled (hourly_inputs price month storage) label)) answer
-
--- the answer where terms and month are known: all energy of the month has one price, or the record is refused after all
-pub data IsPriced (terms : Terms) (month : Hourly) (Next : ℤ → Answer → Type 0) (answer : Answer) : Type 0 where
-  no_price : ((price : ℤ) → IsOnePrice terms month.year month.number price → ⊥) → answer ≡ refused NotYet
-      → IsPriced terms month Next answer
-  one_price : (price : ℤ) → IsOnePrice terms month.year month.number price → Next price answer → IsPriced terms month Next answer
+-- the answer where the problem of the month is known but for the battery
+abbrev pub IsFor : Files → List ℕ → (Storage → Inputs) → Wanted → Answer → Type 0
+IsFor files label problem (plan_with battery) answer =
+    IsPlannable (problem no_storage) (ReadsBattery files battery (λ storage. IsPlanned (problem storage) label)) answer
+IsFor files label problem wants_metered_bill answer = IsMeteredBill (problem no_storage) label answer
+IsFor files label problem (schedule_bill battery schedule) answer =
+    ReadsBattery files battery (λ storage. ReadsSchedule files schedule (problem storage) (IsBilled (problem storage) label)) answer
 
 -- the answer where the terms are known
 abbrev pub IsWithTerms : Files → Asked → Terms → Answer → Type 0
 IsWithTerms files asked terms answer =
-    ReadsReadings files asked.readings (λ month. IsPriced terms month (λ price. IsFor files asked.label price month asked.wanted)) answer
+    ReadsReadings files asked.readings (λ month. IsFor files asked.label (joined terms month asked.prior_peak) asked.wanted) answer
 
 -- the rule of billing: net billing where it is chosen, else the record's own
 abbrev pub rule_of : Bool → RuleChoice

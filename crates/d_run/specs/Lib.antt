@@ -6,8 +6,6 @@ pub mod BatteryFile
 pub mod Answer
 pub mod Runs
 pub mod Replies
-pub mod PlanWays
-pub mod PlanLines
 pub mod Law
 pub mod Draft
 pub mod Faults

@@ -1,16 +1,15 @@
 -- What each part of a run prepares, by the files as they are before it.
-use Rattle.std.specs.Prelude.{ℕ, ◌≤◌, ℤ, List, Result, IsErrOf}
+use Rattle.std.specs.Prelude.{ℕ, ◌≤◌, List, Result, IsErrOf}
 use Rattle.d_desk.specs.Cause.{Rose}
 use Rattle.d_desk.specs.Scene.{Files, Scene}
-use Rattle.d_model.specs.Inputs.{Inputs}
-use Rattle.d_model.specs.Shown.{plain_of}
-use Rattle.d_model.specs.declared.battery.Battery.{Battery}
+use Rattle.d_model.specs.Storage.{Storage}
+use Rattle.d_bill.specs.Inputs.{Inputs}
 use Rattle.d_model.specs.declared.meter.Meter.{Meter}
 use Rattle.d_tariff.specs.Shown.{terms_of}
 use Rattle.d_tariff.specs.declared.tariff.Tariff.{Tariff}
 use Rattle.d_words.specs.Asking.{asked_of, wanted_of}
-use Rattle.d_run.specs.Answer.{Answer, IsAnswerTo, IsWithTerms, IsPriced, IsFor, IsPlanned, IsBilled, ReadsBattery, ReadsSchedule}
-use Rattle.d_run.specs.Replies.{PreparesOne, hourly_of, inputs_with}
+use Rattle.d_run.specs.Answer.{Answer, IsAnswerTo, IsWithTerms, IsFor, IsPlanned, IsBilled, ReadsBattery, ReadsSchedule, joined}
+use Rattle.d_run.specs.Replies.{PreparesOne, hourly_of}
 use Rattle.d_run.specs.declared.fault.Fault.{Fault}
 use Rattle.d_run.specs.declared.fault.Fault.TheVariants.{Failed}
 use Rattle.d_run.specs.declared.reply.Reply.{Reply}
@@ -33,27 +32,18 @@ IsRequested request files = IsAnswerTo files (asked_of request)
 abbrev pub IsWithTariff : Request → Tariff → Files → Answer → Type 0
 IsWithTariff request tariff files = IsWithTerms files (asked_of request) (terms_of tariff)
 
--- the answer where the price is known too
-abbrev pub IsWithPrice : Request → Meter → ℤ → Files → Answer → Type 0
-IsWithPrice request meter price files = IsFor files request.label.now price (hourly_of meter) (wanted_of request.task)
-
 -- the answer where tariff and readings are known
 abbrev pub IsWithMeter : Request → Tariff → Meter → Files → Answer → Type 0
-IsWithMeter request tariff meter files = IsPriced (terms_of tariff) (hourly_of meter) (λ price. IsWithPrice request meter price files)
+IsWithMeter request tariff meter files = IsFor files request.label.now (joined (terms_of tariff) (hourly_of meter) request.prior_peak) (wanted_of request.task)
 
 -- the plan with the battery of this file
-abbrev pub Plans : List ℕ → List ℕ → ℤ → Meter → Files → Answer → Type 0
-Plans battery label price meter files = ReadsBattery files battery (λ storage. IsPlanned (inputs_with price meter storage) label)
+abbrev pub Plans : List ℕ → List ℕ → (Storage → Inputs) → Files → Answer → Type 0
+Plans battery label problem files = ReadsBattery files battery (λ storage. IsPlanned (problem storage) label)
 
 -- the bill of the schedule of this file
 abbrev pub BillsSchedule : List ℕ → List ℕ → Inputs → Files → Answer → Type 0
 BillsSchedule schedule label i files = ReadsSchedule files schedule i (IsBilled i label)
 
--- the bill of the schedule of this file with a battery
-abbrev pub BillsWith : List ℕ → List ℕ → ℤ → Meter → Battery → Files → Answer → Type 0
-BillsWith schedule label price meter battery files = BillsSchedule schedule label (plain_of price meter battery) files
-
 -- the bill of the schedule of the one file with the battery of the other
-abbrev pub Bills : List ℕ → List ℕ → List ℕ → ℤ → Meter → Files → Answer → Type 0
-Bills battery schedule label price meter files =
-    ReadsBattery files battery (λ storage. BillsSchedule schedule label (inputs_with price meter storage) files)
+abbrev pub Bills : List ℕ → List ℕ → List ℕ → (Storage → Inputs) → Files → Answer → Type 0
+Bills battery schedule label problem files = ReadsBattery files battery (λ storage. BillsSchedule schedule label (problem storage) files)

@@ -7,7 +7,8 @@ use Rattle.d_desk.specs.Front.{GainsFront}
 use Rattle.d_desk.specs.Stages.{Opens, OpensSome}
 use Rattle.d_desk.specs.declared.fault.DeskFault.{DeskFault}
 use Rattle.d_model.specs.Storage.{Storage}
-use Rattle.d_model.specs.Inputs.{Inputs}
+use Rattle.d_bill.specs.Inputs.{Inputs}
+use Rattle.d_bill.specs.Join.{join_of}
 use Rattle.d_model.specs.Shown.{storage_of}
 use Rattle.d_model.specs.declared.meter.Meter.{Meter}
 use Rattle.d_model.specs.declared.battery.Battery.{Battery}
@@ -88,16 +89,10 @@ EndsAt files name limit too_long Refuses end =
 abbrev pub hourly_of : Meter → Hourly
 hourly_of meter = record { year = meter.month.year; number = meter.month.number; net = meter.net }
 
--- what is planned or billed for a price, these readings and a battery
-abbrev pub inputs_with : ℤ → Meter → Storage → Inputs
-inputs_with price meter storage = record {
-  year = meter.month.year;
-  number = meter.month.number;
-  minutes = meter.minutes;
-  net = meter.net;
-  price = price;
-  storage = storage;
-}
+-- what is planned or billed by this tariff, these readings, this highest flat demand of earlier months, and a battery
+abbrev pub inputs_with : Tariff → Meter → ℤ → Storage → Inputs
+inputs_with tariff meter prior storage =
+    join_of (terms_of tariff) meter.month.year meter.month.number meter.minutes meter.net storage prior
 
 -- the file's bytes are loaded, or it is above its limit
 abbrev pub LoadStage : List ℕ → ℕ → Refusal → Scene → Scene → Result (Vec ℕ Global) Fault → Type 0

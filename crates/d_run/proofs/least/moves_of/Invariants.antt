@@ -1,7 +1,0 @@
-use Rattle.std.proofs.Common.{◌≡◌, map, take}
-use Rattle.d_run.specs.PlanWays.{move_of}
-use Rattle.d_run.proofs.least.moves_of.Given as goal
-
--- the modes so far are moves
-abbrev pub invariant-loop-mode : goal.invariant-loop-mode
-invariant-loop-mode l = l.moves.items ≡ map move_of (take l.mode-index l.modes)
