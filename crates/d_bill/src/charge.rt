@@ -55,7 +55,7 @@ impl Problem {
     }
 
     /// What a period charges for its import.
-    fn period_charge(&self, tally: &Tally, period: u8) -> Money
+    pub fn period_charge(&self, tally: &Tally, period: u8) -> Money
         requires tally { IsTallied self.now tally.now }
         requires period { period < 36 }
         ensures range { IsInRange self.now }
@@ -83,7 +83,7 @@ impl Problem {
     }
 
     /// What a group charges for its highest demand.
-    fn group_charge(&self, tally: &Tally, group: usize) -> Money
+    pub fn group_charge(&self, tally: &Tally, group: usize) -> Money
         requires tally { IsTallied self.now tally.now }
         requires group { group < length self.now.peaks }
         ensures value { result ≡ group_charge self.now tally.now group }
