@@ -9,4 +9,5 @@ mod SizeFacts
 pub mod RuleFacts
 mod WalkFacts
 mod ChargeFacts
+mod BoundFacts
 pub mod Laws
