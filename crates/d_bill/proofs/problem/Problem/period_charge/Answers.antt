@@ -1,8 +1,7 @@
-use Rattle.std.proofs.Common.{◌≡◌, ◌*◌, ◌^◌, Some, None, get_or, pos, sym, ap, ◌∙◌, arith, to_z, of_z, w64, slice_index_or}
+use Rattle.std.proofs.Common.{◌≡◌, ◌*◌, ◌^◌, pos, ◌∙◌, arith, to_z, of_z, w64, slice_index_or}
 use Rattle.std.specs.Prelude.{unsigned_abs}
 use Rattle.std.proofs.lemmas.Int.{ints}
 use Rattle.d_num.specs.Amount.{IsUpTo}
-use Rattle.d_bill.specs.Totals.{Tallied}
 use Rattle.d_bill.proofs.SizeFacts.{month_total}
 use Rattle.d_bill.proofs.ChargeFacts.{up_to_abs}
 use Rattle.d_bill.proofs.problem.Problem.period_charge.Goals as goal

@@ -1,5 +1,4 @@
-use Rattle.std.proofs.Common.{rules, ◌≡◌, ◌*◌, ◌^◌, ℕ, ℤ, pos, sym, subst, ap, ◌∙◌, arith, slice_index_or}
-use Rattle.std.specs.Prelude.{unsigned_abs}
+use Rattle.std.proofs.Common.{rules, ◌≡◌, ℕ, ℤ, pos, sym, subst, ap, ◌∙◌, arith}
 use Rattle.d_num.specs.Sums.{sum_of_first}
 use Rattle.d_bill.specs.Bills.{period_charge}
 use Rattle.d_bill.specs.Counting.{total_limit}
