@@ -1,10 +1,15 @@
 -- The rows of a schedule's file, one after the other.
-use Rattle.std.proofs.Common.{◌≡◌, ℕ, ◌+◌, ◌<◌, List, length, Option, None, Some, true, false, true≢false, IfNone, IfSome, IsSome, refl, sym, below_more}
+use Rattle.std.proofs.Common.{◌≡◌, ℕ, ◌+◌, ◌*◌, ◌<◌, arith, List, length, Option, None, Some, true, false, true≢false, IfNone, IfSome, IsSome, refl, sym, below_more}
 use Rattle.std.specs.Option.{is_some}
 use Rattle.std.specs.Prelude.{slice_index}
+use Rattle.d_num.specs.Amount.{IsReadingLength}
 use Rattle.d_table.specs.Table.{row_at, cell_in}
 use Rattle.d_bill.specs.Inputs.{Inputs}
 use Rattle.d_bill.specs.ScheduleFile.{HasStart, IsModeNamed, NamesMode, IsRightTo, IsScheduleFile}
+
+-- an interval of the month begins within it
+pub begins_within : (t count minutes whole : ℕ) → t < count → count * minutes ≡ whole → IsReadingLength minutes → t * minutes < whole
+begins_within t count minutes whole inside e length = grind arith
 
 -- one right row more
 pub right_more : (i : Inputs) (rows : List (List (List ℕ))) (t number : ℕ) → IsRightTo i rows t → HasStart i rows t → NamesMode i rows t number → IsRightTo i rows (t + 1)

@@ -90,6 +90,7 @@ impl Problem {
     pub fn month(&self) -> Month
         ensures year { result.year ≡ self.now.year }
         ensures number { result.number ≡ self.now.number }
+        ensures range { IsInRange self.now }
     {
         self.month
     }

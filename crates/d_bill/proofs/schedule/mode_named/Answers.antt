@@ -6,7 +6,7 @@ use Rattle.d_bill.proofs.ModeNames.{named_here, not_here, nowhere}
 use Rattle.d_bill.proofs.schedule.mode_named.Goals as goal
 use Rattle.d_bill.proofs.schedule.mode_named.Goals.{After-as_slice-modes}
 
-modes_are : (c : After-as_slice-modes) → c.as_slice-modes.result.now ≡ c.args.problem.now.battery.modes
+modes_are : (c : After-as_slice-modes) → c.as_slice-modes.result.now ≡ c.args.problem.now.storage.modes
 modes_are c = c.as_slice-modes.ensures ∙ ap (λ (s : Storage). s.modes) c.battery.ensures
 
 pub returns-then-eq-clause-some : goal.returns-then-eq-clause-some
