@@ -27,7 +27,7 @@ module _ (i : Inputs) (rates : List ℤ) (fine : IsFair i) where
         feasible = feasible;
         least = λ z other.
             let below : AtMost (To (rated_cost i rates s)) (way_cost (plan_arcs i rates) 0 i.storage.start z) =
-                subst (λ (p : Pot). AtMost p (way_cost (plan_arcs i rates) 0 i.storage.start z)) cost (cheapest.least z) in
+            subst (λ (p : Pot). AtMost p (way_cost (plan_arcs i rates) 0 i.storage.start z)) cost (cheapest.least z) in
             subst (λ (p : Pot). AtMost (To (rated_cost i rates s)) p) (feasible_cost i rates fine z other) below;
         first = λ z other same. (cheapest.first z (feasible_cost i rates fine z other ∙ ap To same ∙ sym cost));
       }

@@ -17,7 +17,7 @@ use Rattle.d_num.proofs.Products.{product_within}
 use Rattle.d_model.specs.declared.mode.Mode.{Mode}
 use Rattle.d_bill.specs.declared.arc.Arc.{Arc}
 use Rattle.d_bill.specs.Inputs.{Inputs, period_in, sell_at}
-use Rattle.d_bill.specs.Flows.{permitted_arc, flow_of, import_of, export_of, arc_of_flow}
+use Rattle.d_bill.specs.Flows.{permitted_arc, flow_of, import_of, export_of}
 use Rattle.d_bill.specs.Prices.{rate_of}
 use Rattle.d_bill.proofs.RuleFacts.{flow_permitted}
 use Rattle.d_path.specs.Arcs.{intervals_of, arc_cost, next_level, level_after, IsSound}

@@ -7,7 +7,7 @@ use Rattle.d_num.specs.declared.pot.Pot.TheVariants.{To, NoWay}
 use Rattle.d_bill.specs.declared.arc.Arc.{Arc}
 use Rattle.d_model.specs.declared.mode.Mode.{Mode}
 use Rattle.d_bill.specs.Inputs.{Inputs}
-use Rattle.d_bill.specs.Flows.{IsPermitted, arc_of, net_at, grid_of, flow_of, arc_of_flow}
+use Rattle.d_bill.specs.Flows.{IsPermitted, arc_of, net_at, grid_of}
 use Rattle.d_bill.specs.Schedules.{KeepsRules, change_of}
 use Rattle.d_bill.specs.Prices.{step_cost}
 use Rattle.d_bill.proofs.RuleFacts.{arc_permitted, arc_there, change_there}

@@ -1,5 +1,5 @@
 -- How large rates are.
-use Rattle.std.proofs.Common.{◌≡◌, ℕ, zero, suc, ℤ, pos, ◌+◌, ◌*◌, ◌^◌, ◌<◌, ◌++◌, List, [], ◌∷◌, Option, Some, None, length, map, All, refl, sym, ap, ◌∙◌, subst, arith, get_or, slice_index_or, Bool, true, false, if◌then◌else◌}
+use Rattle.std.proofs.Common.{◌≡◌, ℕ, zero, suc, ℤ, pos, ◌+◌, ◌*◌, ◌^◌, ◌<◌, ◌++◌, List, [], ◌∷◌, Option, Some, None, length, map, All, refl, sym, ap, ◌∙◌, subst, arith, slice_index_or, Bool, true, false, if◌then◌else◌}
 use Rattle.std.specs.List.{range_with_len}
 use Rattle.std.specs.Option.{ForSome}
 use Rattle.std.proofs.Math.Path.{ap₂}

@@ -1,6 +1,7 @@
 //! The first cheapest schedule of a problem, found over the ways of its battery's modes.
 
-ghost use Rattle.std.specs.Prelude.{◌≡◌, ℤ, List, [], ◌<◌, length, map, IfOk};
+ghost use Rattle.std.specs.Prelude.{◌≡◌, ℤ, ◌*ℤ◌, ◌*◌, ◌^◌, List, [], ◌<◌, length, map, IfOk};
+ghost use Rattle.d_num.specs.Amount.{IsWithin};
 ghost use Rattle.d_bill.specs.Slopes.{rates_of};
 ghost use Rattle.d_path.specs.Arcs.{arcs_of, intervals_of, IsSound};
 ghost use Rattle.d_bound.specs.PlanWays.{mode_cost, mode_costs, move_of, plan_arcs, AreRates, IsFoundWay, IsFoundLeast};
@@ -8,7 +9,7 @@ ghost use Rattle.d_bound.specs.PlanWays.{mode_cost, mode_costs, move_of, plan_ar
 use crate::rates::prices_of;
 use d_bill::Problem;
 use d_model::Mode;
-use d_num::{NoMemory, Pot, Rate};
+use d_num::{Money, NoMemory, Pot, Rate, Wh};
 use d_path::{Layers, Move, Ways, backward, first_cheapest};
 use std::alloc::Global;
 
@@ -89,12 +90,22 @@ fn cost_of(problem: &Problem, rates: &[Rate], interval: u32, mode: u8) -> Pot
     match problem.arc(interval, mode) {
         Some(arc) => {
             let here = problem.interval(interval);
-            let bought = rates[usize::from(here.period)].times(arc.import.value());
-            let sold = here.sell.times(arc.export.value());
+            let bought = worth(rates[usize::from(here.period)], arc.import);
+            let sold = worth(here.sell, arc.export);
             Pot::To(bought.minus(sold))
         }
         None => Pot::NoWay,
     }
+}
+
+/// What an amount of energy is worth at a rate.
+fn worth(rate: Rate, amount: Wh) -> Money
+    ensures value { result ≡ rate *ℤ amount }
+    ensures range { IsWithin (2 * 10 ^ 35) result }
+{
+    // shows the rate's range
+    let _units = rate.units();
+    rate.times(amount.value())
 }
 
 /// How the modes move the battery's level.

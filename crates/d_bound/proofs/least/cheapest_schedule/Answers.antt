@@ -10,7 +10,7 @@ use Rattle.d_bound.proofs.RateFacts.{rates_fair, fair_of}
 use Rattle.d_bound.proofs.PlanArcs.{intervals_is, plan_sound}
 use Rattle.d_bound.proofs.LeastWays.{first_least, none_of_ways}
 use Rattle.d_bound.proofs.least.cheapest_schedule.Goals as goal
-use Rattle.d_bound.proofs.least.cheapest_schedule.Goals.{After-ways-1}
+use Rattle.d_bound.proofs.least.cheapest_schedule.Goals.{After-ways_of-ways}
 
 -- what is found of the ways is found of the schedules
 found_is : (i : Inputs) (rates : List ℤ) → IsFair i → (a : Arcs) (start : ℕ) → a ≡ plan_arcs i rates → start ≡ i.storage.start → (found : Option (Vec ℕ Global)) → IsFoundWay a start found
@@ -21,7 +21,7 @@ found_is i rates fine a start ways from (Some way) first =
     first_least i rates fine way.items (subst (λ (n : ℕ). IsFirstCheapest (plan_arcs i rates) 0 n way.items) from (subst (λ (b : Arcs). IsFirstCheapest b 0 start way.items) ways first))
 
 -- the ways are those of the problem at its prices
-ways_are : (c : After-ways-1) → arcs_of c.ways_of-ways.result ≡ plan_arcs c.args.problem.now (rates_of c.args.problem.now [])
+ways_are : (c : After-ways_of-ways) → arcs_of c.ways_of-ways.result ≡ plan_arcs c.args.problem.now (rates_of c.args.problem.now [])
 ways_are c =
     let i = c.args.problem.now in
     let rates = c.as_slice.ensures.value ∙ c.in_ok-rates.ensures.value in
@@ -31,17 +31,17 @@ pub first_way-requires-clause-sound : goal.first_way-requires-clause-sound
 first_way-requires-clause-sound c =
     let i = c.args.problem.now in
     let fine = fair_of i c.intervals-intervals.ensures.range in
-    subst (λ (a : Arcs). IsSound a) (sym (ways_are (goal.at.first_way-requires-clause-sound c).After-ways-1)) (plan_sound i (rates_of i []) fine (rates_fair i fine))
+    subst (λ (a : Arcs). IsSound a) (sym (ways_are (goal.at.first_way-requires-clause-sound c).After-ways_of-ways)) (plan_sound i (rates_of i []) fine (rates_fair i fine))
 
 pub first_way-requires-clause-intervals : goal.first_way-requires-clause-intervals
 first_way-requires-clause-intervals c =
     let i = c.args.problem.now in
     c.intervals-intervals.ensures.value ∙ sym (intervals_is i (rates_of i []) (fair_of i c.intervals-intervals.ensures.range))
-    ∙ ap (λ (a : Arcs). intervals_of a) (sym (ways_are (goal.at.first_way-requires-clause-intervals c).After-ways-1))
+    ∙ ap (λ (a : Arcs). intervals_of a) (sym (ways_are (goal.at.first_way-requires-clause-intervals c).After-ways_of-ways))
 
 pub returns : goal.returns
 returns c =
     let i = c.args.problem.now in
     let ways = c.ways_of-ways in
     IfOk-weaker c.first_way.result (IsFoundWay (arcs_of ways.result) ways.result.start) (IsFoundLeast i (rates_of i []))
-    (found_is i (rates_of i []) (fair_of i c.intervals-intervals.ensures.range) (arcs_of ways.result) ways.result.start (ways_are (goal.at.returns c).After-ways-1) ways.ensures.start) c.first_way.ensures
+    (found_is i (rates_of i []) (fair_of i c.intervals-intervals.ensures.range) (arcs_of ways.result) ways.result.start (ways_are (goal.at.returns c).After-ways_of-ways) ways.ensures.start) c.first_way.ensures
