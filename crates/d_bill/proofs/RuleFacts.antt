@@ -1,5 +1,5 @@
 -- What it means that a mode keeps the rules.
-use Rattle.std.proofs.Common.{◌≡◌, ℕ, ℤ, pos, ◌+ℤ◌, ◌≤ℤ◌, ◌*◌, ◌^◌, Option, Some, None, true, refl, ap, arith, to_z, of_z, w64}
+use Rattle.std.proofs.Common.{subst, ◌≡◌, ℕ, ℤ, pos, ◌+ℤ◌, ◌≤ℤ◌, ◌*◌, ◌^◌, Option, Some, None, true, refl, ap, arith, to_z, of_z, w64}
 use Rattle.std.specs.Prelude.{slice_get, int_le, ◌&&◌, if◌then◌else◌}
 use Rattle.std.specs.Ordering.{is_gt, int_cmp}
 use Rattle.std.proofs.lemmas.Int.{ints}
@@ -73,6 +73,12 @@ pub record KeepsWith (i : Inputs) (t : ℕ) (mode : Mode) (level : ℤ) : Type 0
   pub high : level ≤ℤ pos mode.high
   pub floor : pos i.storage.floor ≤ℤ (level +ℤ mode.change)
   pub capacity : (level +ℤ mode.change) ≤ℤ pos i.storage.capacity
+
+-- the mode of a number that keeps the rules is the one that stands there
+pub keeps_with : (i : Inputs) (t number : ℕ) (level : ℤ) (mode : Mode) → slice_get i.storage.modes number ≡ Some mode → KeepsRules i t number level → KeepsWith i t mode level
+keeps_with i t number level mode there k =
+    let same : k.mode ≡ mode = cc in
+    subst (λ (m : Mode). KeepsWith i t m level) same (record { permitted = k.permitted; low = k.low; high = k.high; floor = k.floor; capacity = k.capacity })
 
 -- a mode that keeps them keeps the rules by its number
 pub keeps_rules : (i : Inputs) (t number : ℕ) (level : ℤ) (mode : Mode) → slice_get i.storage.modes number ≡ Some mode → KeepsWith i t mode level → KeepsRules i t number level

@@ -1,6 +1,10 @@
 -- Lines made part by part.
 use Rattle.std.proofs.Common.{◌≡◌, List, ◌++◌, append_assoc, refl}
 
+-- two parts behind a text
+pub two_parts : {X : Type 0} (old one two a b : List X) → one ≡ old ++ a → two ≡ one ++ b → two ≡ old ++ (a ++ b)
+two_parts {X} old one two a b e1 e2 = rw (e2, e1) (simp append_assoc refl)
+
 -- three parts behind a text
 pub three_parts : {X : Type 0} (old one two three a b c : List X) → one ≡ old ++ a → two ≡ one ++ b → three ≡ two ++ c → three ≡ old ++ (a ++ (b ++ c))
 three_parts {X} old one two three a b c e1 e2 e3 = rw (e3, e2, e1) (simp append_assoc refl)

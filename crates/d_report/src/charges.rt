@@ -94,6 +94,7 @@ fn put_front(
     requires { group < length problem.now.peaks }
     ensures { OnOk result (text.new.items ≡ text.old.items ++ spec.group_front problem.now tally.now group (slice_get problem.now.demand_groups group)) }
 {
+    let floor = problem.groups()[group].floor.value();
     let peak = i128::from(tally.peaks[group].value());
     match problem.group_period(group as u8) {
         Some(period) => {
@@ -101,7 +102,6 @@ fn put_front(
             put_number(text, " peak ", peak)
         }
         None => {
-            let floor = problem.groups()[group].floor.value();
             put_number(text, "flat peak ", peak)?;
             put_number(text, " floor ", i128::from(floor))
         }
