@@ -1,4 +1,5 @@
 mod PriceFacts
 mod TableFacts
+pub mod TableGrows
 mod ChargeFacts
 mod JoinFacts

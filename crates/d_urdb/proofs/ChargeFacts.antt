@@ -125,11 +125,11 @@ tells_some reader row name unit_name charge is other = elim (cases_Bool (is_char
   | inr none ↦ absurd (other (ap (λ (c : Charge). c.amount) is ∙ rw none refl))
 ]
 
-tells_unit : (reader : CellReader) (row : Row) (name unit_name : List ℕ) (charge : Charge) → charge ≡ charge_of reader row name unit_name
+pub tells_unit : (reader : CellReader) (row : Row) (name unit_name : List ℕ) (charge : Charge) → charge ≡ charge_of reader row name unit_name
     → is_charged reader row name ≡ true → charge.unit ≡ unwrap_or (unit_at row unit_name) Month
 tells_unit reader row name unit_name charge is charged = ap (λ (c : Charge). c.unit) is ∙ rw charged refl
 
-is_yearly : (unit : Option ChargeUnit) → unwrap_or unit Month ≡ Year → is_year unit ≡ true
+pub is_yearly : (unit : Option ChargeUnit) → unwrap_or unit Month ≡ Year → is_year unit ≡ true
 is_yearly None same = absurd (cc)
 is_yearly (Some Day) same = absurd (cc)
 is_yearly (Some Month) same = absurd (cc)

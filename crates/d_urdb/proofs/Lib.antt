@@ -27,3 +27,6 @@ mod FuelFacts
 mod EmptyPeriod
 mod KeptColumns
 mod PeriodLaw
+mod ReadBounds
+mod TierTables
+pub mod TariffLaw

@@ -150,7 +150,7 @@ order_told : (a b : Bool) → a ≡ false → (not a && not b) ≡ false → b �
 order_told a true last none = refl
 order_told a false last none = absurd (let e : true ≡ false = rw last at none in cc)
 
-when_none : (test : Bool) (refused : Refused) → first_of (when test refused ∷ []) ≡ None → test ≡ false
+pub when_none : (test : Bool) (refused : Refused) → first_of (when test refused ∷ []) ≡ None → test ≡ false
 unfolding first_of
 when_none true refused none = absurd (let e : Some refused ≡ None = none in cc)
 when_none false refused none = refl

@@ -27,9 +27,9 @@ use Rattle.d_columns.specs.Ignored.{ignored_columns}
 use Rattle.d_urdb.specs.Record.{row_terms, is_hourly}
 
 -- twelve months of 24 hours
-record IsFull (hours : List (List ℕ)) : Type 0 where
-  months : length hours ≡ 12
-  days : All (λ month. length month ≡ 24) hours
+pub record IsFull (hours : List (List ℕ)) : Type 0 where
+  pub months : length hours ≡ 12
+  pub days : All (λ month. length month ≡ 24) hours
 
 zero_full : IsFull zero_hours
 zero_full = record { months = refl; days = All-replicate (λ (month : List ℕ). length month ≡ 24) 12 (replicate 24 0) refl }
@@ -39,7 +39,7 @@ hours_full cell (Ok rows) (inl (blank, is)) = subst IsFull (sym is) zero_full
 hours_full cell (Ok rows) (inr grid) = let sizes = grid-sizes cell rows grid in record { months = sizes.0; days = sizes.1 }
 hours_full cell (Err place) (some, fault) = zero_full
 
-schedule_full : (reader : CellReader) → IsCellReader reader → (row : Row) (name : List ℕ) → IsFull (hours_in reader row name)
+pub schedule_full : (reader : CellReader) → IsCellReader reader → (row : Row) (name : List ℕ) → IsFull (hours_in reader row name)
 schedule_full reader are row name = hours_full (named_cell row name) (reader.hours (named_cell row name)) (are.hours_is (named_cell row name))
 
 -- the period of each of its hours occurs in a grid

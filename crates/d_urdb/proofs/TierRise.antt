@@ -15,6 +15,7 @@ use Rattle.d_columns.specs.Tiers.{Row, has_tier}
 use Rattle.d_urdb.specs.Periods.{begin_of, end_of, price_of, is_above, tiers_to}
 use Rattle.d_urdb.specs.Values.{HasRisingEnds, HasPrices}
 use Rattle.d_columns.proofs.HoleLaws.{one_before}
+use Rattle.d_tier.proofs.TableGrows.{count_with}
 use Rattle.d_urdb.proofs.OneReader.{one_reader}
 
 -- one more tier ends no later than where it begins
@@ -28,12 +29,6 @@ end_from start end price (tier ∷ next ∷ rest) below = end_from (unwrap_or ti
 
 pub end_with : (end price : ℤ) (tiers : List Tier) → last_end tiers ≤ℤ end → last_end (with_tier end price tiers) ≤ℤ end
 end_with end price tiers below = end_from (pos 0) end price tiers below
-
--- and there is at most one more
-pub count_with : (end price : ℤ) (tiers : List Tier) → length (with_tier end price tiers) ≤ length tiers + 1
-count_with end price [] = omega arith
-count_with end price (tier ∷ []) = elim (cases_Bool (int_eq tier.price price)) [ inl same ↦ rw same (omega arith) | inr other ↦ rw other (omega arith) ]
-count_with end price (tier ∷ next ∷ rest) = let rest_count = count_with end price (next ∷ rest) in omega (arith, rest_count)
 
 -- its price is in range where all are
 in_range : Tier → Type 0

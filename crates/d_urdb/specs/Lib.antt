@@ -19,3 +19,4 @@ pub mod Hours
 pub mod Energy
 pub mod Accepted
 pub mod Record
+pub mod Law
