@@ -32,4 +32,3 @@ first_break_same i s t u first second = order (not_before i s t u first second) 
   where
     order : (t < u → ⊥) → (u < t → ⊥) → t ≡ u
     order low high = omega arith
-

@@ -10,3 +10,5 @@ pub mod RuleFacts
 mod WalkFacts
 mod ChargeFacts
 pub mod Laws
+mod JoinFacts
+mod JoinRange

@@ -113,7 +113,7 @@ power_small minutes flow pace small = by_import minutes (import_of flow) (cases 
 pub month_peak : (i : Inputs) (g : ℕ) (x : Tallied) → IsInRange i → g < 37 → IsTallied i x → IsUpTo (8 * 10 ^ 9) (slice_index_or x.peaks g (pos 0))
 month_peak i g x fine below tallied =
     let peak = greatest_up_to (8 * 10 ^ 9) (length i.net) (λ t. if is_in_group i t g then power_of i.minutes (tallied.flow t) else pos 0)
-        (λ k inside. held (is_in_group i k g) (power_of i.minutes (tallied.flow k)) (power_small i.minutes (tallied.flow k) fine.minutes (tallied.small k inside))) in
+    (λ k inside. held (is_in_group i k g) (power_of i.minutes (tallied.flow k)) (power_small i.minutes (tallied.flow k) fine.minutes (tallied.small k inside))) in
     let is : slice_index_or x.peaks g (pos 0) ≡ peak_to i tallied.flow (length i.net) g = ap (λ (y : Tallied). slice_index_or y.peaks g (pos 0)) tallied.is ∙ values_read 37 (peak_to i tallied.flow (length i.net)) g (pos 0) below in
     rw is peak
   where

@@ -13,5 +13,6 @@ returns-then-gt c =
     let arc = c.arc_of_flow-arc.result in
     let is : arc ≡ arc_of_flow i.minutes c.args.flow = c.arc_of_flow-arc.ensures.value ∙ ap (arc_of_flow i.minutes) (to_z-of_z _ c.args.flow c.ranges.flow) in
     elim c.then-gt.branch [
-      then-gt-via-then-gt w ↦ not_imported i c.args.flow arc is (is_over arc.import _ _ (ap (λ (x : Inputs). x.storage.max_import) c.self.view_is) w.if-gt.ensures)
-    | then-gt-via-else-gt+then-gt-2 w ↦ not_exported i c.args.flow arc is (is_over arc.export _ _ (ap (λ (x : Inputs). x.storage.max_export) c.self.view_is) w.if-gt-2.ensures) ]
+      | then-gt-via-then-gt w ↦ not_imported i c.args.flow arc is (is_over arc.import _ _ (ap (λ (x : Inputs). x.storage.max_import) c.self.view_is) w.if-gt.ensures)
+      | then-gt-via-else-gt+then-gt-2 w ↦ not_exported i c.args.flow arc is (is_over arc.export _ _ (ap (λ (x : Inputs). x.storage.max_export) c.self.view_is) w.if-gt-2.ensures)
+    ]
