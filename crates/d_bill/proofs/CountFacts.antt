@@ -1,5 +1,5 @@
 -- How the tally of the first intervals grows by one.
-use Rattle.std.proofs.Common.{◌≡◌, ◌⊎◌, inl, inr, ℕ, zero, suc, ℤ, pos, ◌+◌, ◌<◌, ◌==◌, ◌+ℤ◌, ◌*ℤ◌, ◌≤ℤ◌, List, length, get_or, arith, refl, sym, ap, ◌∙◌, if◌then◌else◌, slice_index_or, slice_set, Bool, true, false, replicate, nat_lt, ◌&&◌}
+use Rattle.std.proofs.Common.{◌≡◌, ℕ, zero, suc, ℤ, pos, ◌+◌, ◌<◌, ◌==◌, ◌+ℤ◌, ◌*ℤ◌, ◌≤ℤ◌, List, length, get_or, arith, refl, sym, ap, ◌∙◌, if◌then◌else◌, slice_index_or, slice_set, Bool, true, false, replicate, nat_lt, ◌&&◌}
 use Rattle.std.proofs.Math.Path.{ap₂}
 use Rattle.std.specs.Int.{int_max}
 use Rattle.std.proofs.lemmas.Int.{ints, clamps}

@@ -9,6 +9,7 @@ mod SizeFacts
 pub mod RuleFacts
 mod WalkFacts
 mod ChargeFacts
+mod BoundFacts
 pub mod Laws
 mod JoinFacts
 mod JoinRange

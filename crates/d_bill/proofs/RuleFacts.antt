@@ -1,5 +1,5 @@
 -- What it means that a mode keeps the rules.
-use Rattle.std.proofs.Common.{◌≡◌, ℕ, ℤ, pos, ◌+ℤ◌, ◌≤ℤ◌, ◌*◌, ◌^◌, Option, Some, None, true, refl, ap, ◌∙◌, arith, to_z, of_z, w64}
+use Rattle.std.proofs.Common.{◌≡◌, ℕ, ℤ, pos, ◌+ℤ◌, ◌≤ℤ◌, ◌*◌, ◌^◌, Option, Some, None, true, refl, ap, arith, to_z, of_z, w64}
 use Rattle.std.specs.Prelude.{slice_get, int_le, ◌&&◌, if◌then◌else◌}
 use Rattle.std.specs.Ordering.{is_gt, int_cmp}
 use Rattle.std.proofs.lemmas.Int.{ints}

@@ -1,16 +1,19 @@
 //! What is charged for a tally.
 
+ghost use Rattle.std.specs.Prelude.{◌≡◌, ◌<◌, pos, slice_index_or};
+
 use crate::problem::Problem;
 use crate::tally::Tally;
-use d_num::Money;
+use d_num::{Money, Watt, Wh};
 
 impl Problem {
-    ghost use Rattle.std.specs.Prelude.{◌≡◌, ℕ, ◌*◌, ◌^◌, ◌<◌, pos, unsigned_abs, length, slice_index_or};
+    ghost use Rattle.std.specs.Prelude.{◌≡◌, ℕ, ◌^◌, ◌<◌, length};
     ghost use Rattle.d_num.specs.Amount.{IsWithin};
     ghost use Rattle.d_num.specs.Sums.{sum_of_first};
+    ghost use Rattle.d_bill.specs.Inputs.{IsInRange};
     ghost use Rattle.d_bill.specs.Totals.{IsTallied};
     ghost use Rattle.d_bill.specs.Bills.{sum_of, bill_by, period_charge, group_charge, group_charges};
-    ghost use Rattle.d_bill.specs.Counting.{group_limit};
+    ghost use Rattle.d_bill.specs.Counting.{total_limit, group_limit};
 
     /// The bill of a tally that `walk` or `metered` of this problem wrote: the sum, or the minimum where that is greater. Without a
     /// minimum it may be below 0. It is at most 10^14 USD in size.
@@ -42,8 +45,7 @@ impl Problem {
     fn period_charges(&self, tally: &Tally) -> Money
         requires { IsTallied self.now tally.now }
         ensures value { result ≡ sum_of_first 36 (period_charge self.now tally.now) }
-        ensures small { (number : ℕ) → number < 36
-            → IsWithin (3 * 10 ^ 21 * unsigned_abs (slice_index_or tally.now.totals number (pos 0))) (period_charge self.now tally.now number) }
+        ensures small { (number : ℕ) → number < 36 → IsWithin (total_limit tally.now number) (period_charge self.now tally.now number) }
     {
         let mut sum = Money::new(0).unwrap();
         for period in 0..36u8 {
@@ -56,10 +58,11 @@ impl Problem {
     fn period_charge(&self, tally: &Tally, period: u8) -> Money
         requires tally { IsTallied self.now tally.now }
         requires period { period < 36 }
+        ensures range { IsInRange self.now }
         ensures value { result ≡ period_charge self.now tally.now period }
-        ensures small { IsWithin (3 * 10 ^ 21 * unsigned_abs (slice_index_or tally.now.totals period (pos 0))) result }
+        ensures small { IsWithin (total_limit tally.now period) result }
     {
-        let total = tally.totals[period as usize].value();
+        let total = total_of(tally, period).value();
         match self.energy(period) {
             Some(found) => found.tiers.charge(total),
             None => Money::new(0).unwrap(),
@@ -86,6 +89,25 @@ impl Problem {
         ensures value { result ≡ group_charge self.now tally.now group }
         ensures small { IsWithin (group_limit self.now group) result }
     {
-        self.groups()[group].charge(tally.peaks[group])
+        let peak = &self.groups()[group];
+        // shows the floor's range
+        let _floor = peak.floor.value();
+        peak.charge(peak_of(tally, group))
     }
+}
+
+/// The import of a period.
+fn total_of(tally: &Tally, period: u8) -> Wh
+    requires { period < 36 }
+    ensures { result ≡ slice_index_or tally.now.totals period (pos 0) }
+{
+    tally.totals[period as usize]
+}
+
+/// The highest demand of a group.
+fn peak_of(tally: &Tally, group: usize) -> Watt
+    requires { group < 37 }
+    ensures { result ≡ slice_index_or tally.now.peaks group (pos 0) }
+{
+    tally.peaks[group]
 }

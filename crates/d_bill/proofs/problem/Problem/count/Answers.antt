@@ -5,7 +5,6 @@ use Rattle.d_bill.specs.declared.arc.Arc.{Arc}
 use Rattle.d_bill.specs.Inputs.{sell_of}
 use Rattle.d_bill.specs.Totals.{Tallied}
 use Rattle.d_bill.proofs.CountFacts.{tally_more}
-use Rattle.d_bill.proofs.RangeFacts.{period_below}
 use Rattle.d_bill.proofs.SizeFacts.{total_fits, credit_fits}
 use Rattle.d_bill.proofs.problem.Problem.count.Goals as goal
 use Rattle.d_bill.proofs.problem.Problem.count.Goals.{After-times-worth}

@@ -1,10 +1,7 @@
-use Rattle.std.proofs.Common.{◌≡◌, ℕ, ◌*◌, ◌^◌, ◌<◌, pos, unsigned_abs, length, slice_index_or, ◌+◌, ◌-◌, ◌≤◌, ℤ, ◌+ℤ◌, ◌-ℤ◌, ◌*ℤ◌, ◌≤ℤ◌, ◌<ℤ◌, FitsSigned, to_z, of_z}
-use Rattle.d_num.specs.Amount.{IsWithin}
-use Rattle.d_num.specs.Sums.{sum_of_first}
-use Rattle.d_bill.specs.Totals.{IsTallied}
-use Rattle.d_bill.specs.Bills.{sum_of, bill_by, period_charge, group_charge, group_charges}
+use Rattle.d_bill.specs.Bills.{group_charge}
 use Rattle.d_bill.specs.Counting.{group_limit}
+use Rattle.d_bill.proofs.ChargeFacts.{IsChargedTo}
 use Rattle.d_bill.proofs.problem.Problem.group_charges.Given as goal
 
 abbrev pub invariant-loop-group : goal.invariant-loop-group
-invariant-loop-group l = ?
+invariant-loop-group l = IsChargedTo l.group (group_charge l.self l.tally) (group_limit l.self) l.sum

@@ -1,4 +1,4 @@
-use Rattle.std.proofs.Common.{◌≡◌, ◌<◌, pos, ℕ, length, to_z, of_z, w64, ap, ◌∙◌, arith}
+use Rattle.std.proofs.Common.{◌≡◌, length, to_z, of_z, w64, ap, ◌∙◌, arith}
 use Rattle.std.proofs.lemmas.Int.{ints}
 use Rattle.d_bill.specs.Flows.{net_at, arc_of_flow}
 use Rattle.d_bill.specs.Totals.{tally_to}

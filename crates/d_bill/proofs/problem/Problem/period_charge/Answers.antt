@@ -1,8 +1,7 @@
-use Rattle.std.proofs.Common.{rules, ◌≡◌, ◌*◌, ◌^◌, Some, None, get_or, pos, sym, ap, ◌∙◌, arith, to_z, of_z, w64, slice_index_or}
+use Rattle.std.proofs.Common.{◌≡◌, ◌*◌, ◌^◌, pos, ◌∙◌, arith, to_z, of_z, w64, slice_index_or}
 use Rattle.std.specs.Prelude.{unsigned_abs}
 use Rattle.std.proofs.lemmas.Int.{ints}
 use Rattle.d_num.specs.Amount.{IsUpTo}
-use Rattle.d_bill.specs.Totals.{Tallied}
 use Rattle.d_bill.proofs.SizeFacts.{month_total}
 use Rattle.d_bill.proofs.ChargeFacts.{up_to_abs}
 use Rattle.d_bill.proofs.problem.Problem.period_charge.Goals as goal
@@ -17,8 +16,7 @@ total_is : (c : In-Some) → to_z w64 (of_z w64 c.value-total.result) ≡ slice_
 total_is c =
     let range = c.value-total.ensures.range in
     let same : to_z w64 (of_z w64 c.value-total.result) ≡ c.value-total.result = omega (arith, ints, range.0, range.1) in
-    let read : c.index-tally-period.result ≡ slice_index_or c.args.tally.now.totals c.args.period (pos 0) = search rules in
-    same ∙ c.value-total.ensures.value ∙ read
+    same ∙ c.value-total.ensures.value ∙ c.total_of.ensures
 
 pub charge-requires : goal.charge-requires
 charge-requires c = let s = (goal.at.charge-requires c).In-Some in rw (total_is s) (small s)

@@ -1,6 +1,5 @@
 use Rattle.std.proofs.Common.{◌≡◌, ap, ◌∙◌}
 use Rattle.std.proofs.lemmas.Int.{to_z-of_z}
-use Rattle.d_bill.specs.declared.arc.Arc.{Arc}
 use Rattle.d_bill.specs.Inputs.{Inputs}
 use Rattle.d_bill.specs.Flows.{arc_of_flow}
 use Rattle.d_bill.proofs.RuleFacts.{not_imported, not_exported, is_over}

@@ -1,6 +1,5 @@
-use Rattle.std.proofs.Common.{◌≡◌, pos, ◌≤ℤ◌, ◌+ℤ◌, Some, sym, ap, ◌∙◌, arith}
+use Rattle.std.proofs.Common.{◌≡◌, pos, ◌≤ℤ◌, ◌+ℤ◌, Some, sym, ◌∙◌, arith}
 use Rattle.std.proofs.lemmas.Int.{ints}
-use Rattle.d_bill.specs.Inputs.{Inputs}
 use Rattle.d_bill.specs.Flows.{arc_of}
 use Rattle.d_bill.proofs.RuleFacts.{keeps_rules, arc_permitted}
 use Rattle.d_bill.proofs.problem.Problem.step.Goals as goal

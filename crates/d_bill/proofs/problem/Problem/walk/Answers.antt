@@ -1,12 +1,10 @@
-use Rattle.std.proofs.Common.{◌≡◌, ◌*◌, ◌^◌, pos, ◌≤◌, ◌<◌, ℕ, length, subst, sym, ap, ◌∙◌, arith}
-use Rattle.std.specs.Prelude.{slice_index}
-use Rattle.std.proofs.lemmas.Int.{ints}
+use Rattle.std.proofs.Common.{◌≡◌, ◌*◌, ◌^◌, ◌≤◌, ◌<◌, ℕ, length, subst, sym, ap, ◌∙◌, arith}
 use Rattle.d_num.specs.Amount.{IsUpTo}
 use Rattle.d_bill.specs.declared.arc.Arc.{Arc}
 use Rattle.d_bill.specs.Inputs.{Inputs}
 use Rattle.d_bill.specs.Flows.{flow_at}
 use Rattle.d_bill.specs.Schedules.{IsFirstBreak}
-use Rattle.d_bill.specs.Totals.{tally_to, tally_of}
+use Rattle.d_bill.specs.Totals.{tally_to}
 use Rattle.d_bill.proofs.CountFacts.{tally_none}
 use Rattle.d_bill.proofs.SizeFacts.{import_small, export_small}
 use Rattle.d_bill.proofs.WalkFacts.{IsWalkedTo, flow_small, walked_none, walked_more, walked_break, walked_short, walked_whole, walked_tallied}
