@@ -15,3 +15,5 @@ mod ModeNames
 mod ScheduleRows
 mod ScheduleLaws
 pub mod ScheduleFound
+mod JoinFacts
+mod JoinRange

@@ -1,4 +1,5 @@
 pub mod Inputs
+pub mod Join
 pub mod Flows
 pub mod Schedules
 pub mod Totals

@@ -7,6 +7,7 @@
 mod arc;
 mod charge;
 mod count;
+mod join;
 mod law;
 mod problem;
 mod schedule;

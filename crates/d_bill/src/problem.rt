@@ -63,7 +63,8 @@ impl Model for Problem {
 }
 
 impl Problem {
-    ghost use Rattle.std.specs.Prelude.{◌≡◌, ◌^◌, ◌<◌, Some, length, IfSome, option_map, slice_get};
+    ghost use Rattle.std.specs.Prelude.{◌≡◌, ◌*◌, ◌^◌, ◌<◌, Some, All, IsSome, length, IfSome, option_map, slice_get};
+    ghost use Rattle.std.specs.Option.{ForSome};
     ghost use Rattle.d_num.specs.Amount.{IsWithin};
     ghost use Rattle.d_tariff.specs.Terms.{period_at};
     ghost use Rattle.d_model.specs.Shown.{storage_of};
@@ -152,6 +153,18 @@ impl Problem {
         ensures range { IsInRange self.now }
     {
         self.energy.entry(period)
+    }
+
+    /// The tiers of an energy period that some interval is in.
+    pub fn tiers(&self, period: u8) -> &Tiers
+        requires { IsSome (period_at self.now.energy period) }
+        ensures value { ForSome (period_at self.now.energy period) (λ found. result.now ≡ found.tiers) }
+        ensures prices { All (λ tier. IsWithin (3 * 10 ^ 21) tier.price) result.now }
+    {
+        match self.energy(period) {
+            Some(found) => &found.tiers,
+            None => unreachable!(),
+        }
     }
 
     /// Whether an energy period has two tiers or more.

@@ -11,16 +11,18 @@ use Rattle.d_bill.specs.Totals.{Tallied}
 use Rattle.d_bill.specs.Bills.{period_charge, group_charge, sum_of, bill_by}
 use Rattle.d_report.specs.Lines.{line, money_line, texts_of, title_lines}
 
--- the line of an energy period: its number, its import of the month in Wh and what that is charged; nothing where no interval is in it
-abbrev pub period_line : Inputs → Tallied → ℕ → Option Period → List ℕ
-period_line i tally number None = []
-period_line i tally number (Some period) =
-    codes "period " ++ whole_text (pos number) ++ codes " import " ++ whole_text (slice_index_or tally.totals number (pos 0))
-    ++ money_line (codes " charge ") (period_charge i tally number)
+-- the line of an energy period: its number, its import of the month in Wh and what that is charged
+abbrev pub period_line : ℕ → ℤ → ℤ → List ℕ
+period_line number import charge = codes "period " ++ whole_text (pos number) ++ codes " import " ++ whole_text import ++ money_line (codes " charge ") charge
+
+-- the same of a problem and its tally; nothing where no interval is in the period
+abbrev pub period_at_line : Inputs → Tallied → ℕ → Option Period → List ℕ
+period_at_line i tally number None = []
+period_at_line i tally number (Some period) = period_line number (slice_index_or tally.totals number (pos 0)) (period_charge i tally number)
 
 -- the lines of all energy periods
 abbrev pub period_lines : Inputs → Tallied → List ℕ
-period_lines i tally = texts_of 36 (λ number. period_line i tally number (period_at i.energy number))
+period_lines i tally = texts_of 36 (λ number. period_at_line i tally number (period_at i.energy number))
 
 -- the least power in W that a group is charged for
 abbrev pub floor_at : Inputs → ℕ → ℤ
@@ -28,17 +30,22 @@ floor_at i group = unwrap_or (option_map (λ (peak : Peak). peak.floor) (slice_g
 
 -- the front of a group's line: the demand period for which it stands and its greatest power in W, or that it is flat demand's, its greatest
 -- power and the least that is charged for
-abbrev pub group_front : Inputs → Tallied → ℕ → Option ℕ → List ℕ
-group_front i tally group (Some number) = codes "group " ++ whole_text (pos number) ++ codes " peak " ++ whole_text (slice_index_or tally.peaks group (pos 0))
-group_front i tally group None = codes "flat peak " ++ whole_text (slice_index_or tally.peaks group (pos 0)) ++ codes " floor " ++ whole_text (floor_at i group)
+abbrev pub group_front : Option ℕ → ℤ → ℤ → List ℕ
+group_front (Some number) peak floor = codes "group " ++ whole_text (pos number) ++ codes " peak " ++ whole_text peak
+group_front None peak floor = codes "flat peak " ++ whole_text peak ++ codes " floor " ++ whole_text floor
 
 -- the line of a group
-abbrev pub group_line : Inputs → Tallied → ℕ → List ℕ
-group_line i tally group = group_front i tally group (slice_get i.demand_groups group) ++ money_line (codes " charge ") (group_charge i tally group)
+abbrev pub group_line : Option ℕ → ℤ → ℤ → ℤ → List ℕ
+group_line number peak floor charge = group_front number peak floor ++ money_line (codes " charge ") charge
+
+-- the same of a problem and its tally
+abbrev pub group_at_line : Inputs → Tallied → ℕ → List ℕ
+group_at_line i tally group =
+    group_line (slice_get i.demand_groups group) (slice_index_or tally.peaks group (pos 0)) (floor_at i group) (group_charge i tally group)
 
 -- the lines of all groups
 abbrev pub group_lines : Inputs → Tallied → List ℕ
-group_lines i tally = texts_of (length i.peaks) (group_line i tally)
+group_lines i tally = texts_of (length i.peaks) (group_at_line i tally)
 
 -- the line of the minimum
 abbrev pub minimum_line : Option ℤ → List ℕ

@@ -1,13 +1,13 @@
 //! The text of a bill, line by line.
 
-ghost use Rattle.std.specs.Prelude.{◌≡◌, ◌++◌, ◌<◌, length, slice_get, IfOk, OnOk};
+ghost use Rattle.std.specs.Prelude.{◌≡◌, ◌++◌, ◌<◌, length, IfOk, OnOk};
 ghost use Rattle.d_tariff.specs.Terms.{period_at};
 ghost use Rattle.d_bill.specs.Totals.{IsTallied};
 ghost use Rattle.d_report.specs.Charges as spec;
 
 use crate::lines::{put_line, put_money, put_number, put_title};
 use d_bill::{Problem, Tally};
-use d_num::{Money, NoMemory};
+use d_num::{Money, NoMemory, Watt, Wh};
 use std::alloc::Global;
 
 const PERIODS: u8 = 36;
@@ -46,13 +46,13 @@ fn put_periods(text: &mut Vec<u8>, problem: &Problem, tally: &Tally) -> Result<(
     ensures { OnOk result (text.new.items ≡ text.old.items ++ spec.period_lines problem.now tally.now) }
 {
     for period in 0..PERIODS {
-        put_period(text, problem, tally, period)?;
+        put_period_at(text, problem, tally, period)?;
     }
     Ok(())
 }
 
-/// Adds the line of an energy period, or nothing where it doesn't occur.
-fn put_period(
+/// Adds the line of an energy period of a problem, or nothing where it doesn't occur.
+fn put_period_at(
     text: &mut Vec<u8>,
     problem: &Problem,
     tally: &Tally,
@@ -61,15 +61,24 @@ fn put_period(
     requires tally { IsTallied problem.now tally.now }
     requires period { period < 36 }
     ensures { OnOk result (text.new.items ≡ text.old.items
-        ++ spec.period_line problem.now tally.now period (period_at problem.now.energy period)) }
+        ++ spec.period_at_line problem.now tally.now period (period_at problem.now.energy period)) }
 {
-    if problem.energy(period).is_none() {
-        return Ok(());
+    match problem.energy(period) {
+        Some(_) => {
+            let import = tally.totals[usize::from(period)];
+            put_period(text, period, import, problem.period_charge(tally, period))
+        }
+        None => Ok(()),
     }
-    let import = tally.totals[usize::from(period)].value();
+}
+
+/// Adds the line of an energy period.
+fn put_period(text: &mut Vec<u8>, period: u8, import: Wh, charge: Money) -> Result<(), NoMemory>
+    ensures { OnOk result (text.new.items ≡ text.old.items ++ spec.period_line period import charge) }
+{
     put_number(text, "period ", i128::from(period))?;
-    put_number(text, " import ", i128::from(import))?;
-    put_money(text, " charge ", problem.period_charge(tally, period))
+    put_number(text, " import ", i128::from(import.value()))?;
+    put_money(text, " charge ", charge)
 }
 
 /// Adds a line for each group of intervals that is charged for its highest demand.
@@ -78,32 +87,46 @@ fn put_groups(text: &mut Vec<u8>, problem: &Problem, tally: &Tally) -> Result<()
     ensures { OnOk result (text.new.items ≡ text.old.items ++ spec.group_lines problem.now tally.now) }
 {
     for group in 0..problem.groups().len() {
-        put_front(text, problem, tally, group)?;
-        put_money(text, " charge ", problem.group_charge(tally, group))?;
+        put_group_at(text, problem, tally, group)?;
     }
     Ok(())
 }
 
-/// Adds the front of a group's line.
-fn put_front(
+/// Adds the line of a group of a problem.
+fn put_group_at(
     text: &mut Vec<u8>,
     problem: &Problem,
     tally: &Tally,
     group: usize,
 ) -> Result<(), NoMemory>
-    requires { group < length problem.now.peaks }
-    ensures { OnOk result (text.new.items ≡ text.old.items ++ spec.group_front problem.now tally.now group (slice_get problem.now.demand_groups group)) }
+    requires tally { IsTallied problem.now tally.now }
+    requires group { group < length problem.now.peaks }
+    ensures { OnOk result (text.new.items ≡ text.old.items ++ spec.group_at_line problem.now tally.now group) }
 {
-    let floor = problem.groups()[group].floor.value();
-    let peak = i128::from(tally.peaks[group].value());
-    match problem.group_period(group as u8) {
+    let floor = problem.groups()[group].floor;
+    let peak = tally.peaks[group];
+    put_front(text, problem.group_period(group as u8), peak, floor)?;
+    put_money(text, " charge ", problem.group_charge(tally, group))
+}
+
+/// Adds the front of a group's line.
+fn put_front(
+    text: &mut Vec<u8>,
+    period: Option<u8>,
+    peak: Watt,
+    floor: Watt,
+) -> Result<(), NoMemory>
+    ensures { OnOk result (text.new.items ≡ text.old.items ++ spec.group_front period peak floor) }
+{
+    let peak = i128::from(peak.value());
+    match period {
         Some(period) => {
             put_number(text, "group ", i128::from(period))?;
             put_number(text, " peak ", peak)
         }
         None => {
             put_number(text, "flat peak ", peak)?;
-            put_number(text, " floor ", i128::from(floor))
+            put_number(text, " floor ", i128::from(floor.value()))
         }
     }
 }

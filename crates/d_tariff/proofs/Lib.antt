@@ -1,3 +1,3 @@
 mod EntryFacts
-mod HourFacts
+pub mod HourFacts
 mod MonthFacts

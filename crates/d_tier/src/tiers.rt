@@ -123,7 +123,8 @@ impl Tiers {
 
     /// The same table once more.
     pub fn copied(&self) -> Tiers
-        ensures { result ≡ self.now }
+        ensures value { result ≡ self.now }
+        ensures table { IsTierTable result }
     {
         let first = &self.tiers[0];
         let mut tiers = [*first; MOST_TIERS];

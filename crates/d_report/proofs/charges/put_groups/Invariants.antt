@@ -1,8 +1,0 @@
-use Rattle.std.proofs.Common.{◌≡◌, ◌++◌, ◌<◌, length, slice_get, IfOk, OnOk, ℕ, ◌+◌, ◌-◌, ◌*◌, ◌≤◌}
-use Rattle.d_tariff.specs.Terms.{period_at}
-use Rattle.d_bill.specs.Totals.{IsTallied}
-use Rattle.d_report.specs.Charges as spec
-use Rattle.d_report.proofs.charges.put_groups.Given as goal
-
-abbrev pub invariant-loop-group : goal.invariant-loop-group
-invariant-loop-group l = ?

@@ -1,9 +1,0 @@
-use Rattle.std.proofs.Common.{rules, ◌≡◌, ◌++◌, ◌<◌, length, slice_get, IfOk, OnOk, ℕ, ◌+◌, ◌-◌, ◌*◌, ◌≤◌, ◌/◌, ◌%◌, Bool, true, false, nat_eq, nat_lt, List, [], ◌∷◌, slice_index_or, slice_set, bit_and, bit_or, Fits, w8, w32, w64, Bor, MutBor, ℤ, pos, ◌+ℤ◌, ◌-ℤ◌, ◌*ℤ◌, ◌≤ℤ◌, ◌<ℤ◌, FitsSigned, to_z, of_z}
-use Rattle.d_tariff.specs.Terms.{period_at}
-use Rattle.d_bill.specs.Totals.{IsTallied}
-use Rattle.d_report.specs.Charges as spec
-use Rattle.d_report.proofs.charges.put_period.Goals as goal
-
--- src/charges.rt:55:1
-pub returns : goal.returns
-returns c = ?
