@@ -1,7 +1,7 @@
 -- What a joined problem keeps.
 use Rattle.std.proofs.Common.{◌≡◌, ◌⊎◌, inl, inr, ℕ, zero, suc, ℤ, pos, ◌+◌, ◌*◌, ◌^◌, ◌/◌, ◌%◌, ◌<◌, ◌≤◌, ◌==◌, ◌||◌, Bool, true, false, if◌then◌else◌, List, [], ◌∷◌, ◌++◌, Option, None, Some, IsSome, IfSome, map, length, All, get_or, slice_get, arith, refl, sym, ap, subst, ◌∙◌}
 use Rattle.std.specs.Option.{ForSome, option_to_list}
-use Rattle.std.specs.List.{Contains, filter, list_any, range_with_len}
+use Rattle.std.specs.List.{Contains, range_with_len}
 use Rattle.std.proofs.lemmas.Bool.Decides.{nat_tests}
 use Rattle.std.proofs.lemmas.Int.{ints}
 use Rattle.std.proofs.lemmas.List.{length-map, length-append}
@@ -14,14 +14,13 @@ use Rattle.d_num.specs.Amount.{IsWithin, IsReadingLength}
 use Rattle.d_tier.specs.declared.peak.Peak.{Peak}
 use Rattle.d_tariff.specs.declared.period.Period.{Period}
 use Rattle.d_tariff.specs.Terms.{Terms, IsTariff, period_at}
-use Rattle.d_tariff.specs.Months.{fixed_of, minimum_of}
 use Rattle.d_tariff.proofs.HourFacts.{hour_there}
-use Rattle.d_model.specs.Calendar.{IsMonth}
+use Rattle.d_cal.specs.Calendar.{IsMonth}
 use Rattle.d_model.specs.Readings.{IsReadings}
 use Rattle.d_model.specs.Starts.{start_day, start_minute}
 use Rattle.d_model.specs.Storage.{Storage, IsStorage}
 use Rattle.d_bill.specs.Inputs.{IsInRange, HasPrices, HasPeakPrices}
-use Rattle.d_bill.specs.Join.{Metered, interval_period, interval_periods, occurs, occurring, occurring_periods, has_group, demand_groups, demand_peak, flat_peak, joined_peaks, joined_in, join_of}
+use Rattle.d_bill.specs.Join.{Metered, interval_period, interval_periods, occurs, occurring, occurring_periods, has_group, demand_groups, demand_peak, flat_peak, joined_peaks}
 
 -- a month has from 1 to 2976 intervals
 few_intervals : (count minutes days : ℕ) → IsReadingLength minutes → count * minutes ≡ days * 1440 → 28 ≤ days → days ≤ 31 → (1 ≤ count) × (count ≤ 8928)
