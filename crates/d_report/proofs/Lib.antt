@@ -1,4 +1,5 @@
 mod PrintFacts
 mod LineFacts
+mod GroupFacts
 mod PlanTexts
 mod PlanLevels

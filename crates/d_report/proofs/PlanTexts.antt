@@ -1,5 +1,6 @@
 -- The lines of a plan's schedule.
-use Rattle.std.proofs.Common.{◌≡◌, ℕ, ℤ, ◌+◌, List, [], ◌∷◌, ◌++◌, Some, refl, ap, ◌∙◌, codes, append_assoc, add-one, slice_get, slice_index}
+use Rattle.std.proofs.Common.{◌≡◌, ℕ, ℤ, ◌+◌, List, [], ◌∷◌, ◌++◌, Some, refl, sym, ap, ◌∙◌, codes, append_assoc, add-one, slice_get, slice_index}
+use Rattle.std.proofs.lemmas.List.{append-nil}
 use Rattle.std.specs.Fmt.{signed_decimal}
 use Rattle.d_model.specs.declared.mode.Mode.{Mode}
 use Rattle.d_bill.specs.Inputs.{Inputs}
@@ -32,3 +33,12 @@ texts_more n text = rw add-one refl
 pub texts_none : (text : ℕ → List ℕ) → texts_of 0 text ≡ []
 unfolding texts_of
 texts_none text = refl
+
+-- nothing is added yet
+pub texts_begin : (old : List ℕ) (text : ℕ → List ℕ) → old ≡ old ++ texts_of 0 text
+texts_begin old text = sym (ap (λ (list : List ℕ). old ++ list) (texts_none text) ∙ append-nil old)
+
+-- one text more is added
+pub texts_go_on : (old before now : List ℕ) (n : ℕ) (text : ℕ → List ℕ) → before ≡ old ++ texts_of n text → now ≡ before ++ text n → now ≡ old ++ texts_of (n + 1) text
+texts_go_on old before now n text so_far put =
+    put ∙ ap (λ (list : List ℕ). list ++ text n) so_far ∙ append_assoc old (texts_of n text) (text n) ∙ ap (λ (list : List ℕ). old ++ list) (sym (texts_more n text))

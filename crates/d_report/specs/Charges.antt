@@ -13,7 +13,7 @@ use Rattle.d_report.specs.Lines.{line, money_line, texts_of, title_lines}
 
 -- the line of an energy period: its number, its import of the month in Wh and what that is charged
 abbrev pub period_line : ℕ → ℤ → ℤ → List ℕ
-period_line number import charge = codes "period " ++ whole_text (pos number) ++ codes " import " ++ whole_text import ++ money_line (codes " charge ") charge
+period_line number import charge = codes "period " ++ (whole_text (pos number) ++ (codes " import " ++ (whole_text import ++ money_line (codes " charge ") charge)))
 
 -- the same of a problem and its tally; nothing where no interval is in the period
 abbrev pub period_at_line : Inputs → Tallied → ℕ → Option Period → List ℕ
@@ -31,8 +31,8 @@ floor_at i group = unwrap_or (option_map (λ (peak : Peak). peak.floor) (slice_g
 -- the front of a group's line: the demand period for which it stands and its greatest power in W, or that it is flat demand's, its greatest
 -- power and the least that is charged for
 abbrev pub group_front : Option ℕ → ℤ → ℤ → List ℕ
-group_front (Some number) peak floor = codes "group " ++ whole_text (pos number) ++ codes " peak " ++ whole_text peak
-group_front None peak floor = codes "flat peak " ++ whole_text peak ++ codes " floor " ++ whole_text floor
+group_front (Some number) peak floor = codes "group " ++ (whole_text (pos number) ++ (codes " peak " ++ whole_text peak))
+group_front None peak floor = codes "flat peak " ++ (whole_text peak ++ (codes " floor " ++ whole_text floor))
 
 -- the line of a group
 abbrev pub group_line : Option ℕ → ℤ → ℤ → ℤ → List ℕ
@@ -54,12 +54,12 @@ minimum_line (Some minimum) = money_line (codes "minimum ") minimum
 
 -- the lines behind the groups'
 abbrev pub closing_lines : Inputs → Tallied → List ℕ
-closing_lines i tally = money_line (codes "fixed ") i.fixed ++ money_line (codes "sum ") (sum_of i tally) ++ minimum_line i.minimum
+closing_lines i tally = money_line (codes "fixed ") i.fixed ++ (money_line (codes "sum ") (sum_of i tally) ++ minimum_line i.minimum)
 
 -- the lines of a bill
 abbrev pub bill_lines : Inputs → Tallied → List ℕ
-bill_lines i tally = period_lines i tally ++ money_line (codes "credit ") tally.credit ++ group_lines i tally ++ closing_lines i tally
+bill_lines i tally = period_lines i tally ++ (money_line (codes "credit ") tally.credit ++ (group_lines i tally ++ closing_lines i tally))
 
 -- the text of a bill
 abbrev pub bill_text : Inputs → List ℕ → Tallied → List ℕ
-bill_text i label tally = title_lines (codes "bill") i label ++ money_line (codes "bill ") (bill_by i tally) ++ bill_lines i tally
+bill_text i label tally = title_lines (codes "bill") i label ++ (money_line (codes "bill ") (bill_by i tally) ++ bill_lines i tally)

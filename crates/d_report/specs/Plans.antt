@@ -27,8 +27,8 @@ schedule_lines i s = texts_of (length i.net) (schedule_line i s)
 -- found
 abbrev pub verdict_lines : ℤ → ℤ → List ℕ
 verdict_lines bill metered =
-    line (codes "verdict least") ++ money_line (codes "bill ") bill ++ money_line (codes "metered ") metered ++ line (codes "boxes 1")
+    line (codes "verdict least") ++ (money_line (codes "bill ") bill ++ (money_line (codes "metered ") metered ++ line (codes "boxes 1")))
 
 -- the text of a least plan
 abbrev pub plan_text : Inputs → List ℕ → List ℕ → List ℕ
-plan_text i label s = title_lines (codes "plan") i label ++ verdict_lines (bill_of i s) (metered_bill i) ++ bill_lines i (tally_of i s) ++ schedule_lines i s
+plan_text i label s = title_lines (codes "plan") i label ++ (verdict_lines (bill_of i s) (metered_bill i) ++ (bill_lines i (tally_of i s) ++ schedule_lines i s))
