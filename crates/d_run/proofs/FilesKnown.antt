@@ -5,12 +5,12 @@ use Rattle.jiff_core.specs.Calendar.{days_in_month}
 use Rattle.jiff_core.proofs.CalendarLemmas.{days_in_month_bounds}
 use Rattle.d_num.specs.Amount.{IsWithin, IsRate}
 use Rattle.d_table.specs.Table.{row_at, IsRectangular}
-use Rattle.d_model.specs.declared.schedule.ScheduleFault.{ScheduleFault}
-use Rattle.d_model.specs.declared.schedule.ScheduleFault.TheVariants.{Shape}
+use Rattle.d_bill.specs.declared.schedule.ScheduleFault.{ScheduleFault}
+use Rattle.d_bill.specs.declared.schedule.ScheduleFault.TheVariants.{Shape}
 use Rattle.d_model.specs.Storage.{Storage, IsStorage}
-use Rattle.d_model.specs.Inputs.{Inputs, IsInRange}
-use Rattle.d_model.specs.Law.{HasOneSchedule, HasOneFault}
-use Rattle.d_model.proofs.ScheduleFound.{read_once}
+use Rattle.d_bill.specs.Inputs.{Inputs, IsInRange}
+use Rattle.d_bill.specs.ScheduleLaw.{HasOneSchedule, HasOneFault}
+use Rattle.d_bill.proofs.ScheduleFound.{read_once}
 use Rattle.d_run.specs.ReadingsFile.{Hourly, IsHourly}
 use Rattle.d_run.specs.BatteryFile.{IsBatteryFile}
 use Rattle.d_run.specs.Answer.{Answer, refused, RefusesReadings, RefusesBattery, RefusesSchedule, MeansSchedule, hourly_inputs}

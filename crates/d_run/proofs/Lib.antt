@@ -1,14 +1,8 @@
-mod PrintFacts
 mod ShownCells
 mod LineFacts
 mod DigitTexts
 mod MonthTexts
 mod ReadingsFacts
-mod PriceLaws
-mod PlanArcs
-mod PlanSteps
-mod FeasibleWays
-mod LeastWays
 mod StageFacts
 mod FileLaws
 mod OneAnswer
@@ -16,15 +10,10 @@ mod RequestAnswers
 mod RunLaws
 mod EntryFacts
 mod NoValues
-mod PlanTexts
-mod PlanLevels
 mod Deciding
 mod DecimalFound
 mod RecordKept
 mod RecordFound
-mod RecordRates
-mod PriceFound
-mod PriceStages
 mod MonthFound
 mod EntryFound
 mod BatteryFound
@@ -33,3 +22,4 @@ mod EntryLists
 mod OddRows
 mod FilesKnown
 mod ScheduleBreaks
+mod PlanStages

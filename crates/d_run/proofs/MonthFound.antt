@@ -11,7 +11,7 @@ use Rattle.std.specs.Str.{str_to_ascii_lowercase}
 use Rattle.d_model.specs.Starts.{IsStartText, date_text, time_text, start_day, start_minute}
 use Rattle.d_run.specs.ReadingsFile.{Hourly, IsHourly, IsReading, IsReadingRow, AreReadingRows, IsReadingsFile}
 use Rattle.d_run.proofs.MonthTexts.{year_value, number_value}
-use Rattle.d_model.proofs.ScheduleFound.{moment_decided}
+use Rattle.d_bill.proofs.ScheduleFound.{moment_decided}
 use Rattle.d_run.proofs.ReadingsFacts.{first_start}
 use Rattle.d_run.proofs.DecimalFound.{decimal_in, decimal_only, decimal_here}
 use Rattle.d_run.proofs.Deciding.{Decided, Found, both, restated, candidate, at_most, integer_at_most, same_number, same_cells, each_below}

@@ -1,10 +1,10 @@
 -- To every list of words and all files there is exactly one answer.
 use Rattle.std.proofs.Common.{◌≡◌, ◌⊎◌, inl, inr, ℕ, ◌<◌, ◌≤◌, ℤ, List, length, refl, sym, ap, subst, ◌∙◌, arith}
 use Rattle.d_desk.specs.Scene.{Files, bytes_in}
-use Rattle.d_model.specs.Inputs.{Inputs, IsInRange}
-use Rattle.d_model.specs.Schedules.{IsFeasible, IsFirstBreak}
-use Rattle.d_model.specs.Bills.{IsFirstLeast, bill_of}
-use Rattle.d_model.proofs.Laws.{first_least_same, break_excludes, first_break_same}
+use Rattle.d_bill.specs.Inputs.{Inputs, IsInRange}
+use Rattle.d_bill.specs.Schedules.{IsFeasible, IsFirstBreak}
+use Rattle.d_bill.specs.Bills.{IsFirstLeast, bill_of}
+use Rattle.d_bill.proofs.Laws.{first_least_same, break_excludes, first_break_same}
 use Rattle.d_words.specs.Words.{Asked, Wanted, IsRequest, plan_with, metered_bill as wants_metered_bill, schedule_bill}
 use Rattle.d_run.specs.Text.{plan_text, bill_text, break_text}
 use Rattle.d_num.specs.Amount.{IsRate}

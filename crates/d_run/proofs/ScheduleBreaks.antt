@@ -2,9 +2,9 @@
 use Rattle.std.proofs.Common.{◌≡◌, ◌⊎◌, inl, inr, ℕ, zero, suc, ◌<◌, ℤ, pos, ◌≤ℤ◌, ◌<ℤ◌, ◌+ℤ◌, List, length, Option, None, Some, slice_get, slice_index, arith, refl, sym, subst, ◌∙◌}
 use Rattle.std.proofs.lemmas.Int.{ints}
 use Rattle.d_model.specs.declared.mode.Mode.{Mode}
-use Rattle.d_model.specs.Inputs.{Inputs}
-use Rattle.d_model.specs.Flows.{IsPermitted}
-use Rattle.d_model.specs.Schedules.{KeepsRules, KeepsAt, IsFeasible, IsFirstBreak, level_at}
+use Rattle.d_bill.specs.Inputs.{Inputs}
+use Rattle.d_bill.specs.Flows.{IsPermitted}
+use Rattle.d_bill.specs.Schedules.{KeepsRules, KeepsAt, IsFeasible, IsFirstBreak, level_at}
 use Rattle.d_run.proofs.Deciding.{Decided, holds, fails, both, restated, integer_at_most, same_number}
 
 -- the rules with this mode

@@ -146,7 +146,7 @@ ReadsSchedule files name i Next answer =
 
 -- what is planned or billed: a tariff's terms, a month of hourly readings, the highest flat demand of earlier months, and a battery
 abbrev pub joined : Terms → Hourly → ℤ → Storage → Inputs
-joined terms month prior storage = join_of terms month.year month.number 60 month.net storage prior
+joined terms month prior storage = join_of terms (record { year = month.year; number = month.number; minutes = 60; net = month.net }) storage prior
 
 -- no battery: no level but 0, and one mode that changes nothing
 abbrev pub no_storage : Storage

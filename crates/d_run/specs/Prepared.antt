@@ -8,8 +8,8 @@ use Rattle.d_model.specs.declared.meter.Meter.{Meter}
 use Rattle.d_tariff.specs.Shown.{terms_of}
 use Rattle.d_tariff.specs.declared.tariff.Tariff.{Tariff}
 use Rattle.d_words.specs.Asking.{asked_of, wanted_of}
-use Rattle.d_run.specs.Answer.{Answer, IsAnswerTo, IsWithTerms, IsFor, IsPlanned, IsBilled, ReadsBattery, ReadsSchedule, joined}
-use Rattle.d_run.specs.Replies.{PreparesOne, hourly_of}
+use Rattle.d_run.specs.Answer.{Answer, IsAnswerTo, IsWithTerms, IsFor, IsPlannable, IsPlanned, IsBilled, no_storage, ReadsBattery, ReadsSchedule}
+use Rattle.d_run.specs.Replies.{PreparesOne, problem_of}
 use Rattle.d_run.specs.declared.fault.Fault.{Fault}
 use Rattle.d_run.specs.declared.fault.Fault.TheVariants.{Failed}
 use Rattle.d_run.specs.declared.reply.Reply.{Reply}
@@ -34,11 +34,15 @@ IsWithTariff request tariff files = IsWithTerms files (asked_of request) (terms_
 
 -- the answer where tariff and readings are known
 abbrev pub IsWithMeter : Request → Tariff → Meter → Files → Answer → Type 0
-IsWithMeter request tariff meter files = IsFor files request.label.now (joined (terms_of tariff) (hourly_of meter) request.prior_peak) (wanted_of request.task)
+IsWithMeter request tariff meter files = IsFor files request.label.now (problem_of tariff meter request.prior_peak) (wanted_of request.task)
 
 -- the plan with the battery of this file
 abbrev pub Plans : List ℕ → List ℕ → (Storage → Inputs) → Files → Answer → Type 0
 Plans battery label problem files = ReadsBattery files battery (λ storage. IsPlanned (problem storage) label)
+
+-- the plan with the battery of this file, where the month is one that is planned
+abbrev pub PlansMonth : List ℕ → List ℕ → (Storage → Inputs) → Files → Answer → Type 0
+PlansMonth battery label problem files = IsPlannable (problem no_storage) (Plans battery label problem files)
 
 -- the bill of the schedule of this file
 abbrev pub BillsSchedule : List ℕ → List ℕ → Inputs → Files → Answer → Type 0

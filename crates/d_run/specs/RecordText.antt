@@ -4,7 +4,8 @@ use Rattle.std.specs.Fmt.{decimal}
 use Rattle.d_table.specs.Table.{row_at, cell_in}
 use Rattle.d_urdb.specs.RefusalNames.{refusal_name}
 use Rattle.d_urdb.specs.declared.fault.Refused.{Refused}
-use Rattle.d_run.specs.Text.{line, shown, behind_blank}
+use Rattle.d_report.specs.Lines.{line}
+use Rattle.d_run.specs.Text.{shown, behind_blank}
 
 -- the name of a column as it is shown; `none` where there is no such column
 abbrev pub column_text : List (List ℕ) → ℕ → List ℕ

@@ -8,7 +8,6 @@ use Rattle.d_desk.specs.Stages.{Opens, OpensSome}
 use Rattle.d_desk.specs.declared.fault.DeskFault.{DeskFault}
 use Rattle.d_model.specs.Storage.{Storage}
 use Rattle.d_bill.specs.Inputs.{Inputs}
-use Rattle.d_bill.specs.Join.{join_of}
 use Rattle.d_model.specs.Shown.{storage_of}
 use Rattle.d_model.specs.declared.meter.Meter.{Meter}
 use Rattle.d_model.specs.declared.battery.Battery.{Battery}
@@ -18,7 +17,7 @@ use Rattle.d_urdb.specs.declared.rule.RuleChoice.{RuleChoice}
 use Rattle.d_run.specs.Record.{IsRecord}
 use Rattle.d_run.specs.ReadingsFile.{Hourly, IsHourly}
 use Rattle.d_run.specs.BatteryFile.{IsBatteryFile}
-use Rattle.d_run.specs.Answer.{Answer, IsAnswer, longest_record, longest_file, refused, rows_in, RefusesRecord, RefusesReadings, RefusesBattery, RefusesSchedule, MeansSchedule}
+use Rattle.d_run.specs.Answer.{Answer, IsAnswer, longest_record, longest_file, joined, refused, rows_in, RefusesRecord, RefusesReadings, RefusesBattery, RefusesSchedule, MeansSchedule}
 use Rattle.d_run.specs.Runs.{IsAnswered, IsCutShort}
 use Rattle.d_run.specs.declared.reply.Reply.{Reply}
 use Rattle.d_run.specs.declared.fault.Refusal.{Refusal}
@@ -89,10 +88,9 @@ EndsAt files name limit too_long Refuses end =
 abbrev pub hourly_of : Meter → Hourly
 hourly_of meter = record { year = meter.month.year; number = meter.month.number; net = meter.net }
 
--- what is planned or billed by this tariff, these readings, this highest flat demand of earlier months, and a battery
-abbrev pub inputs_with : Tariff → Meter → ℤ → Storage → Inputs
-inputs_with tariff meter prior storage =
-    join_of (terms_of tariff) meter.month.year meter.month.number meter.minutes meter.net storage prior
+-- the problem of a month but for its battery: by this tariff, these readings and this highest flat demand of earlier months
+abbrev pub problem_of : Tariff → Meter → ℤ → Storage → Inputs
+problem_of tariff meter prior = joined (terms_of tariff) (hourly_of meter) prior
 
 -- the file's bytes are loaded, or it is above its limit
 abbrev pub LoadStage : List ℕ → ℕ → Refusal → Scene → Scene → Result (Vec ℕ Global) Fault → Type 0

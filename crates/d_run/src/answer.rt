@@ -2,26 +2,25 @@
 
 ghost use Rattle.std.specs.Prelude.{◌≡◌, ℕ, ◌≤◌, length, map, string_bytes, IfOk};
 ghost use Rattle.d_desk.specs.Cause.{Rose, HasCause};
-ghost use Rattle.d_model.specs.Inputs.{IsInRange};
-ghost use Rattle.d_model.specs.Shown.{inputs_of};
-ghost use Rattle.d_run.specs.Answer.{IsAnswer, refused, longest_record, rule_of};
+ghost use Rattle.d_bill.specs.Law.{IsPlain};
+ghost use Rattle.d_run.specs.Answer.{IsAnswer, refused, longest_record, no_storage, rule_of};
 ghost use Rattle.d_run.specs.Runs.{Runs, status_of};
-ghost use Rattle.d_run.specs.Replies.{EndsBy, LoadStage, RecordStage, ReadingsStage, BatteryStage, ScheduleStage, Replies};
-ghost use Rattle.d_run.specs.Prepared.{IsCaused, Prepares, IsRequested, IsWithTariff, IsWithMeter, IsWithPrice, Plans, Bills, BillsWith, BillsSchedule};
+ghost use Rattle.d_run.specs.Replies.{EndsBy, LoadStage, RecordStage, ReadingsStage, BatteryStage, ScheduleStage, Replies, problem_of};
+ghost use Rattle.d_run.specs.Prepared.{IsCaused, Prepares, IsRequested, IsWithTariff, IsWithMeter, Plans, PlansMonth, Bills, BillsSchedule};
 
 use crate::battery::read_battery;
 use crate::bill::{metered_bill, schedule_bill};
 use crate::fault::{Fault, ReadFault, Refusal};
+use crate::month::{check_plannable, join_month};
 use crate::plan::plan;
-use crate::price::one_price;
 use crate::readings::read_readings;
 use crate::record::read_record;
 use crate::reply::Reply;
 use crate::schedule::read_modes;
 use crate::verdict::{Status, Verdict};
+use d_bill::Problem;
 use d_desk::{Desk, DeskFault, LoadFault, load_file, print_all};
-use d_model::{Battery, Meter, Problem};
-use d_num::Rate;
+use d_model::{Battery, Meter};
 use d_tariff::Tariff;
 use d_urdb::RuleChoice;
 use d_words::{Request, Task, read_words};
@@ -125,11 +124,11 @@ fn answer_with_tariff<D: Desk>(
     ensures cause { IsCaused (D.faults desk.old) (D.faults desk.new) result }
 {
     let meter = load_readings(alloc, desk, request.readings)?;
-    answer_priced(alloc, desk, request, tariff, &meter)
+    answer_task(alloc, desk, request, tariff, &meter)
 }
 
-/// Prepares the answer where tariff and readings are known: it is refused where the month has no one price of energy.
-fn answer_priced<D: Desk>(
+/// Prepares the answer where tariff and readings are known.
+fn answer_task<D: Desk>(
     alloc: Global,
     desk: &mut D,
     request: &Request<'_>,
@@ -140,82 +139,70 @@ fn answer_priced<D: Desk>(
     ensures told { D.tells → Prepares (IsWithMeter request.now tariff.now meter.now) (D.scene desk.old) (D.scene desk.new) result }
     ensures cause { IsCaused (D.faults desk.old) (D.faults desk.new) result }
 {
-    match one_price(tariff, meter.month) {
-        Some(price) => answer_task(alloc, desk, request, price, meter),
-        None => Err(Refusal::NotYet.fault(alloc)),
-    }
-}
-
-/// Prepares the answer where price and readings are known.
-fn answer_task<D: Desk>(
-    alloc: Global,
-    desk: &mut D,
-    request: &Request<'_>,
-    price: Rate,
-    meter: &Meter,
-) -> Result<Reply, Fault>
-    requires { meter.now.minutes ≡ 60 }
-    ensures told { D.tells → Prepares (IsWithPrice request.now meter.now price) (D.scene desk.old) (D.scene desk.new) result }
-    ensures cause { IsCaused (D.faults desk.old) (D.faults desk.new) result }
-{
-    let label = request.label;
     match request.task {
-        Task::Plan { battery } => answer_plan(alloc, desk, label, battery, price, meter),
-        Task::MeteredBill => Ok(metered_bill(alloc, label, price, meter)?),
+        Task::Plan { battery } => answer_plan(alloc, desk, request, battery, tariff, meter),
+        Task::MeteredBill => Ok(metered_bill(alloc, request, tariff, meter)?),
         Task::ScheduleBill { battery, schedule } => {
-            answer_bill(alloc, desk, label, battery, schedule, price, meter)
+            answer_bill(alloc, desk, request, battery, schedule, tariff, meter)
         }
     }
 }
 
-/// Prepares the plan with the battery of this file.
+/// Prepares the plan with the battery of this file, where the month is one that is planned.
 fn answer_plan<D: Desk>(
     alloc: Global,
     desk: &mut D,
-    label: &str,
+    request: &Request<'_>,
     battery: &str,
-    price: Rate,
+    tariff: &Tariff,
     meter: &Meter,
 ) -> Result<Reply, Fault>
-    ensures told { D.tells → Prepares (Plans battery.now label.now price meter.now) (D.scene desk.old) (D.scene desk.new) result }
+    requires { meter.now.minutes ≡ 60 }
+    ensures told { D.tells → Prepares (PlansMonth battery.now request.now.label.now (problem_of tariff.now meter.now request.now.prior_peak))
+        (D.scene desk.old) (D.scene desk.new) result }
+    ensures cause { IsCaused (D.faults desk.old) (D.faults desk.new) result }
+{
+    check_plannable(alloc, request, tariff, meter)?;
+    plan_with_battery(alloc, desk, request, battery, tariff, meter)
+}
+
+/// Prepares the plan with the battery of this file.
+fn plan_with_battery<D: Desk>(
+    alloc: Global,
+    desk: &mut D,
+    request: &Request<'_>,
+    battery: &str,
+    tariff: &Tariff,
+    meter: &Meter,
+) -> Result<Reply, Fault>
+    requires minutes { meter.now.minutes ≡ 60 }
+    requires plain { IsPlain (problem_of tariff.now meter.now request.now.prior_peak no_storage) }
+    ensures told { D.tells → Prepares (Plans battery.now request.now.label.now (problem_of tariff.now meter.now request.now.prior_peak))
+        (D.scene desk.old) (D.scene desk.new) result }
     ensures cause { IsCaused (D.faults desk.old) (D.faults desk.new) result }
 {
     let battery = load_battery(alloc, desk, battery)?;
-    Ok(plan(alloc, label, price, meter, &battery)?)
+    Ok(plan(alloc, request, tariff, meter, &battery)?)
 }
 
 /// Prepares the bill of a schedule: the battery file comes first.
 fn answer_bill<D: Desk>(
     alloc: Global,
     desk: &mut D,
-    label: &str,
+    request: &Request<'_>,
     battery: &str,
     schedule: &str,
-    price: Rate,
+    tariff: &Tariff,
     meter: &Meter,
 ) -> Result<Reply, Fault>
-    ensures told { D.tells → Prepares (Bills battery.now schedule.now label.now price meter.now) (D.scene desk.old) (D.scene desk.new) result }
+    requires { meter.now.minutes ≡ 60 }
+    ensures told { D.tells → Prepares (Bills battery.now schedule.now request.now.label.now (problem_of tariff.now meter.now request.now.prior_peak))
+        (D.scene desk.old) (D.scene desk.new) result }
     ensures cause { IsCaused (D.faults desk.old) (D.faults desk.new) result }
 {
     let battery = load_battery(alloc, desk, battery)?;
-    bill_with_battery(alloc, desk, label, schedule, price, meter, &battery)
-}
-
-/// Prepares the bill of the schedule of this file with a battery.
-fn bill_with_battery<D: Desk>(
-    alloc: Global,
-    desk: &mut D,
-    label: &str,
-    schedule: &str,
-    price: Rate,
-    meter: &Meter,
-    battery: &Battery,
-) -> Result<Reply, Fault>
-    ensures told { D.tells → Prepares (BillsWith schedule.now label.now price meter.now battery.now) (D.scene desk.old) (D.scene desk.new) result }
-    ensures cause { IsCaused (D.faults desk.old) (D.faults desk.new) result }
-{
-    let problem = Problem::plain(alloc, price, meter, battery)?;
-    bill_of_problem(alloc, desk, label, schedule, &problem)
+    let problem = join_month(alloc, request, tariff, meter, &battery)?;
+    bill_of_problem(alloc, desk, request.label, schedule, &problem)
 }
 
 /// Prepares the bill of the schedule of this file for a problem.
@@ -226,8 +213,7 @@ fn bill_of_problem<D: Desk>(
     schedule: &str,
     problem: &Problem,
 ) -> Result<Reply, Fault>
-    requires { IsInRange (inputs_of problem.now) }
-    ensures told { D.tells → Prepares (BillsSchedule schedule.now label.now (inputs_of problem.now)) (D.scene desk.old) (D.scene desk.new) result }
+    ensures told { D.tells → Prepares (BillsSchedule schedule.now label.now problem.now) (D.scene desk.old) (D.scene desk.new) result }
     ensures cause { IsCaused (D.faults desk.old) (D.faults desk.new) result }
 {
     let modes = load_schedule(alloc, desk, schedule, problem)?;
@@ -281,8 +267,8 @@ fn load_schedule<D: Desk>(
     name: &str,
     problem: &Problem,
 ) -> Result<Vec<u8>, Fault>
-    ensures long { IfOk result (λ modes. length modes.items ≡ length (inputs_of problem.now).net) }
-    ensures told { D.tells → ScheduleStage name.now (inputs_of problem.now) (D.scene desk.old) (D.scene desk.new) result }
+    ensures long { IfOk result (λ modes. length modes.items ≡ length problem.now.net) }
+    ensures told { D.tells → ScheduleStage name.now problem.now (D.scene desk.old) (D.scene desk.new) result }
     ensures cause { IsCaused (D.faults desk.old) (D.faults desk.new) result }
 {
     let bytes = load(alloc, desk, name, LONGEST_FILE, Refusal::LongSchedule)?;

@@ -1,56 +1,38 @@
 //! The bill of the readings alone, and of a schedule.
 
 ghost use Rattle.std.specs.Prelude.{◌≡◌, ℕ, length, IfOk};
-ghost use Rattle.d_model.specs.Shown.{inputs_of, storage_of};
+ghost use Rattle.d_bill.specs.Totals.{IsTallied};
+ghost use Rattle.d_report.specs.Charges as spec;
 ghost use Rattle.d_run.specs.Answer.{IsBilled, IsMeteredBill, no_storage};
-ghost use Rattle.d_run.specs.Replies.{IsReply, Shows, inputs_with};
-ghost use Rattle.d_run.specs.Text.{bill_text, break_text};
+ghost use Rattle.d_run.specs.Replies.{IsReply, Shows, problem_of};
+ghost use Rattle.d_run.specs.Text.{break_text};
 
-use crate::draft::WIDE_LIMIT;
-use crate::lines::{line_text, put_bill, put_title};
+use crate::month::{join_month, no_battery};
 use crate::reply::Reply;
 use crate::verdict::Verdict;
-use d_model::{Battery, Meter, Mode, ModeList, Name, Problem, Tally};
-use d_num::{Money, NoMemory, Rate, Wh};
+use d_bill::{Problem, Tally};
+use d_model::Meter;
+use d_num::NoMemory;
+use d_report::{bill_text, line_text};
+use d_tariff::Tariff;
+use d_words::Request;
 use std::alloc::Global;
 
 /// The bill of the readings alone, without a battery.
 pub fn metered_bill(
     alloc: Global,
-    label: &str,
-    price: Rate,
+    request: &Request<'_>,
+    tariff: &Tariff,
     meter: &Meter,
 ) -> Result<Reply, NoMemory>
-    ensures { IfOk result (IsReply (IsMeteredBill (inputs_with price meter.now no_storage) label.now)) }
+    requires { meter.now.minutes ≡ 60 }
+    ensures { IfOk result (IsReply (IsMeteredBill (problem_of tariff.now meter.now request.now.prior_peak no_storage) request.now.label.now)) }
 {
     let battery = no_battery(alloc)?;
-    let problem = Problem::plain(alloc, price, meter, &battery)?;
+    let problem = join_month(alloc, request, tariff, meter, &battery)?;
     let mut tally = Tally::new();
     problem.metered(&mut tally);
-    bill_reply(alloc, label, &problem, problem.bill(&tally))
-}
-
-/// No battery: the level 0 alone, and one mode that changes nothing.
-fn no_battery(alloc: Global) -> Result<Battery, NoMemory>
-    ensures { IfOk result (λ battery. storage_of battery ≡ no_storage) }
-{
-    let mut modes = ModeList::new(alloc);
-    modes.add(Mode {
-        name: Name::new(b"idle").unwrap(),
-        change: 0,
-        grid: Wh::new(0).unwrap(),
-        low: 0,
-        high: 255,
-    })?;
-    Ok(Battery {
-        capacity: 0,
-        floor: 0,
-        start: 0,
-        end: 0,
-        max_import: Wh::new(WIDE_LIMIT).unwrap(),
-        max_export: Wh::new(WIDE_LIMIT).unwrap(),
-        modes,
-    })
+    bill_reply(alloc, request.label, &problem, &tally)
 }
 
 /// The bill of a schedule, or the first interval in which it breaks a rule.
@@ -60,23 +42,27 @@ pub fn schedule_bill(
     problem: &Problem,
     schedule: &[u8],
 ) -> Result<Reply, NoMemory>
-    requires { length schedule.now ≡ length (inputs_of problem.now).net }
-    ensures { IfOk result (IsReply (IsBilled (inputs_of problem.now) label.now schedule.now)) }
+    requires { length schedule.now ≡ length problem.now.net }
+    ensures { IfOk result (IsReply (IsBilled problem.now label.now schedule.now)) }
 {
     let mut tally = Tally::new();
     match problem.walk(schedule, &mut tally) {
-        Ok(()) => bill_reply(alloc, label, problem, problem.bill(&tally)),
+        Ok(()) => bill_reply(alloc, label, problem, &tally),
         Err(at) => break_reply(alloc, at.interval),
     }
 }
 
-/// The reply that shows a bill.
-fn bill_reply(alloc: Global, label: &str, problem: &Problem, bill: Money) -> Result<Reply, NoMemory>
-    ensures { IfOk result (Shows Verdict.Done (bill_text (inputs_of problem.now) label.now bill)) }
+/// The reply that shows the bill of a tally.
+fn bill_reply(
+    alloc: Global,
+    label: &str,
+    problem: &Problem,
+    tally: &Tally,
+) -> Result<Reply, NoMemory>
+    requires { IsTallied problem.now tally.now }
+    ensures { IfOk result (Shows Verdict.Done (spec.bill_text problem.now label.now tally.now)) }
 {
-    let mut text = Vec::new(alloc);
-    put_title(alloc, &mut text, "bill", label, problem)?;
-    put_bill(&mut text, bill)?;
+    let text = bill_text(alloc, label, problem, tally)?;
     Ok(Reply {
         verdict: Verdict::Done,
         text,

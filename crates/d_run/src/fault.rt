@@ -5,11 +5,11 @@ ghost use Rattle.d_run.specs.Answer.{refused, refusal_text, refusal_verdict};
 ghost use Rattle.d_run.specs.Replies.{EndsBy};
 ghost use Rattle.d_run.specs.Text.{schedule_fault_text};
 
-use crate::lines::line_text;
 use crate::reply::Reply;
 use crate::verdict::Verdict;
-use d_model::ScheduleFault;
+use d_bill::ScheduleFault;
 use d_num::NoMemory;
+use d_report::line_text;
 use d_table::TableFault;
 use std::alloc::{AllocError, AllocFailed, Global};
 use thiserror::Error;
@@ -36,8 +36,10 @@ pub enum Refusal {
     LongReadings,
     /// The readings file is no month of hourly readings.
     Readings,
-    /// By the record the month is billed by more than one price of energy.
-    NotYet,
+    /// Some intervals of the month are charged for their highest demand, which isn't planned yet.
+    GroupsNotYet,
+    /// Some energy period of the month is tiered, which isn't planned yet.
+    TiersNotYet,
     /// The battery file is too long.
     LongBattery,
     /// The battery file is no battery.
@@ -59,7 +61,8 @@ impl Refusal {
             Refusal::RecordShape(row) => shape_text(alloc, row),
             Refusal::LongReadings => line_text(alloc, "refused readings 0 TooLong", ""),
             Refusal::Readings => line_text(alloc, "refused readings 23 NotYet", ""),
-            Refusal::NotYet => line_text(alloc, "refused record 23 NotYet none 1", ""),
+            Refusal::GroupsNotYet => line_text(alloc, "refused record 23 NotYet none 2", ""),
+            Refusal::TiersNotYet => line_text(alloc, "refused record 23 NotYet none 3", ""),
             Refusal::LongBattery => line_text(alloc, "refused battery 0 TooLong", ""),
             Refusal::Battery => line_text(alloc, "refused battery 23 NotYet", ""),
             Refusal::LongSchedule => line_text(alloc, "refused schedule 0 TooLong", ""),
@@ -73,7 +76,10 @@ impl Refusal {
     {
         match self {
             Refusal::Words => Verdict::Words,
-            Refusal::LongRecord | Refusal::RecordShape(_) | Refusal::NotYet => Verdict::Record,
+            Refusal::LongRecord
+            | Refusal::RecordShape(_)
+            | Refusal::GroupsNotYet
+            | Refusal::TiersNotYet => Verdict::Record,
             Refusal::LongReadings | Refusal::Readings => Verdict::Readings,
             Refusal::LongBattery
             | Refusal::Battery

@@ -1,18 +1,17 @@
 //! The reader of a schedule file.
 
 ghost use Rattle.d_table.specs.Table.{rows_of};
-ghost use Rattle.d_model.specs.Shown.{inputs_of};
 ghost use Rattle.d_run.specs.Replies.{GivesSchedule};
 
 use crate::fault::{Fault, Refusal};
-use d_model::{Problem, ScheduleFault, read_schedule};
+use d_bill::{Problem, ScheduleFault, read_schedule};
 use d_table::{TableFault, read_table};
 use std::alloc::Global;
 
 /// The modes of the schedule in the file, one an interval, as numbers of the battery's modes; or the refusal by the first check that
 /// fails: the rows' lengths and the header, the count of rows, and row by row its start and its mode's name.
 pub fn read_modes(alloc: Global, bytes: &[u8], problem: &Problem) -> Result<Vec<u8>, Fault>
-    ensures { GivesSchedule (inputs_of problem.now) (rows_of bytes.now) result }
+    ensures { GivesSchedule problem.now (rows_of bytes.now) result }
 {
     let table = match read_table(alloc, bytes) {
         Ok(table) => table,

@@ -6,7 +6,7 @@ use Rattle.d_model.specs.Shown.{storage_of}
 use Rattle.d_model.specs.declared.battery.Battery.{Battery as Stored}
 use Rattle.d_run.specs.BatteryFile.{IsBatteryFile}
 use Rattle.d_run.specs.Answer.{IsBilled, RefusesBattery, ReadsSchedule, rows_in, longest_file}
-use Rattle.d_run.specs.Replies.{HasValue, PreparesOne, inputs_with}
+use Rattle.d_run.specs.Replies.{HasValue, PreparesOne, problem_of}
 use Rattle.d_run.specs.declared.fault.Refusal.TheVariants.{LongBattery}
 use Rattle.d_run.proofs.StageFacts.{stage_ends, stage_goes_on}
 use Rattle.d_run.proofs.FilesKnown.{battery_known}
@@ -18,7 +18,7 @@ returns-in_err-battery-clause-told g c t =
     let x = g.D.Desk.scene c.args.desk.now in
     let rows = rows_in x.files c.args.battery.now in
     rw (p.1, p.2) (stage_ends c.args.battery.now longest_file LongBattery (RefusesBattery rows) (IsBatteryFile rows)
-    (λ (storage : Storage). ReadsSchedule x.files c.args.schedule.now (inputs_with c.args.price c.args.meter.now storage) (IsBilled (inputs_with c.args.price c.args.meter.now storage) c.args.label.now))
+    (λ (storage : Storage). ReadsSchedule x.files c.args.schedule.now (problem_of c.args.tariff.now c.args.meter.now c.args.request.now.prior_peak storage) (IsBilled (problem_of c.args.tariff.now c.args.meter.now c.args.request.now.prior_peak storage) c.args.request.now.label.now))
     {T = Stored} (HasValue {T = Stored} x.files c.args.battery.now longest_file (λ battery. IsBatteryFile rows (storage_of battery))) x _ _ (c.in_err-battery.ensures.told t))
 
 pub returns-clause-told : goal.returns-clause-told
@@ -26,11 +26,11 @@ returns-clause-told g c t =
     let x = g.D.Desk.scene c.args.desk.now in
     let rows = rows_in x.files c.args.battery.now in
     let y = g.D.Desk.scene c.load_battery.new.desk in
-    let z = g.D.Desk.scene c.bill_with_battery.new.desk in
+    let z = g.D.Desk.scene c.bill_of_problem.new.desk in
     let loaded = c.in_ok-battery.ensures.told t in
-    let i = inputs_with c.args.price c.args.meter.now (storage_of c.in_ok-battery.battery) in
+    let i = problem_of c.args.tariff.now c.args.meter.now c.args.request.now.prior_peak (storage_of c.in_ok-battery.battery) in
     stage_goes_on c.args.battery.now longest_file LongBattery (RefusesBattery rows) (IsBatteryFile rows)
-    (λ (storage : Storage). ReadsSchedule x.files c.args.schedule.now (inputs_with c.args.price c.args.meter.now storage) (IsBilled (inputs_with c.args.price c.args.meter.now storage) c.args.label.now))
-    x y z (storage_of c.in_ok-battery.battery) c.bill_with_battery.result (battery_known rows) loaded.0 loaded.1.0 loaded.1.1
-    (let P : Files → Type 0 = λ files. PreparesOne (ReadsSchedule files c.args.schedule.now i (IsBilled i c.args.label.now)) y z c.bill_with_battery.result in
-    subst P loaded.0.files (c.bill_with_battery.ensures.told t))
+    (λ (storage : Storage). ReadsSchedule x.files c.args.schedule.now (problem_of c.args.tariff.now c.args.meter.now c.args.request.now.prior_peak storage) (IsBilled (problem_of c.args.tariff.now c.args.meter.now c.args.request.now.prior_peak storage) c.args.request.now.label.now))
+    x y z (storage_of c.in_ok-battery.battery) c.bill_of_problem.result (battery_known rows) loaded.0 loaded.1.0 loaded.1.1
+    (let P : Files → Type 0 = λ files. PreparesOne (ReadsSchedule files c.args.schedule.now i (IsBilled i c.args.request.now.label.now)) y z c.bill_of_problem.result in
+    subst P loaded.0.files (c.bill_of_problem.ensures.told t))

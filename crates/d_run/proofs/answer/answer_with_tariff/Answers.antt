@@ -5,7 +5,7 @@ use Rattle.d_model.specs.declared.meter.Meter.{Meter}
 use Rattle.d_words.specs.Asking.{asked_of}
 use Rattle.d_run.specs.ReadingsFile.{Hourly, IsHourly}
 use Rattle.d_tariff.specs.Shown.{terms_of}
-use Rattle.d_run.specs.Answer.{IsFor, IsPriced, RefusesReadings, rows_in, longest_file}
+use Rattle.d_run.specs.Answer.{IsFor, joined, RefusesReadings, rows_in, longest_file}
 use Rattle.d_run.specs.Replies.{HasValue, PreparesOne, IsMeterOf, hourly_of}
 use Rattle.d_run.specs.declared.fault.Refusal.TheVariants.{LongReadings}
 use Rattle.d_run.proofs.StageFacts.{stage_ends, stage_goes_on}
@@ -19,7 +19,7 @@ returns-in_err-meter-clause-told g c t =
     let asked = asked_of c.args.request.now in
     let rows = rows_in x.files asked.readings in
     rw (p.1, p.2) (stage_ends asked.readings longest_file LongReadings (RefusesReadings rows) (IsHourly rows)
-    (λ (month : Hourly). IsPriced (terms_of c.args.tariff.now) month (λ price. IsFor x.files asked.label price month asked.wanted))
+    (λ (month : Hourly). IsFor x.files asked.label (joined (terms_of c.args.tariff.now) month asked.prior_peak) asked.wanted)
     {T = Meter} (HasValue {T = Meter} x.files asked.readings longest_file (IsMeterOf rows)) x _ _ (c.in_err-meter.ensures.told t))
 
 pub returns-clause-told : goal.returns-clause-told
@@ -28,10 +28,10 @@ returns-clause-told g c t =
     let asked = asked_of c.args.request.now in
     let rows = rows_in x.files asked.readings in
     let y = g.D.Desk.scene c.load_readings.new.desk in
-    let z = g.D.Desk.scene c.answer_priced.new.desk in
+    let z = g.D.Desk.scene c.answer_task.new.desk in
     let loaded = c.in_ok-meter.ensures.told t in
     stage_goes_on asked.readings longest_file LongReadings (RefusesReadings rows) (IsHourly rows)
-    (λ (month : Hourly). IsPriced (terms_of c.args.tariff.now) month (λ price. IsFor x.files asked.label price month asked.wanted))
-    x y z (hourly_of c.in_ok-meter.meter) c.answer_priced.result (month_known rows) loaded.0 loaded.1.0 loaded.1.1.1
-    (let P : Files → Type 0 = λ files. PreparesOne (IsPriced (terms_of c.args.tariff.now) (hourly_of c.in_ok-meter.meter) (λ price. IsFor files asked.label price (hourly_of c.in_ok-meter.meter) asked.wanted)) y z c.answer_priced.result in
-    subst P loaded.0.files (c.answer_priced.ensures.told t))
+    (λ (month : Hourly). IsFor x.files asked.label (joined (terms_of c.args.tariff.now) month asked.prior_peak) asked.wanted)
+    x y z (hourly_of c.in_ok-meter.meter) c.answer_task.result (month_known rows) loaded.0 loaded.1.0 loaded.1.1.1
+    (let P : Files → Type 0 = λ files. PreparesOne (IsFor files asked.label (joined (terms_of c.args.tariff.now) (hourly_of c.in_ok-meter.meter) asked.prior_peak) asked.wanted) y z c.answer_task.result in
+    subst P loaded.0.files (c.answer_task.ensures.told t))

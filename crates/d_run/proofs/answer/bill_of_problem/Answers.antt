@@ -1,7 +1,6 @@
 use Rattle.std.proofs.Common.{List, ℕ, Vec, Ok, subst}
 use Rattle.std.specs.declared.alloc.Global.{Global}
 use Rattle.std.proofs.lemmas.Result.{err_from_is_err_and}
-use Rattle.d_model.specs.Shown.{inputs_of}
 use Rattle.d_run.specs.Answer.{IsBilled, MeansSchedule, RefusesSchedule, rows_in, longest_file}
 use Rattle.d_run.specs.Replies.{HasValue, IsReply}
 use Rattle.d_run.specs.declared.fault.Refusal.TheVariants.{LongSchedule}
@@ -12,7 +11,7 @@ use Rattle.d_run.proofs.answer.bill_of_problem.Goals as goal
 pub returns-in_err-modes-clause-told : goal.returns-in_err-modes-clause-told
 returns-in_err-modes-clause-told g c t =
     let p = err_from_is_err_and c.from_residual.result c.from_residual.ensures.1 in
-    let i = inputs_of c.args.problem.now in
+    let i = c.args.problem.now in
     let x = g.D.Desk.scene c.args.desk.now in
     let rows = rows_in x.files c.args.schedule.now in
     rw (p.1, p.2) (stage_ends c.args.schedule.now longest_file LongSchedule (RefusesSchedule i rows) (MeansSchedule i rows) (IsBilled i c.args.label.now)
@@ -20,7 +19,7 @@ returns-in_err-modes-clause-told g c t =
 
 pub returns-clause-told : goal.returns-clause-told
 returns-clause-told g c t =
-    let i = inputs_of c.args.problem.now in
+    let i = c.args.problem.now in
     let x = g.D.Desk.scene c.args.desk.now in
     let rows = rows_in x.files c.args.schedule.now in
     let loaded = c.in_ok-modes.ensures.told t in

@@ -1,7 +1,7 @@
 use Rattle.std.proofs.Common.{refl, ◌∙◌, ap}
 use Rattle.std.proofs.lemmas.Result.{IfOk-weaker}
 use Rattle.d_model.specs.Shown.{inputs_of}
-use Rattle.d_model.specs.Bills.{bill_of}
+use Rattle.d_bill.specs.Bills.{bill_of}
 use Rattle.d_run.specs.Answer.{says, billed, broken}
 use Rattle.d_run.specs.Text.{bill_text, break_text}
 use Rattle.d_run.specs.declared.verdict.Verdict.TheVariants.{Done, NoSchedule}

@@ -2,9 +2,9 @@ use Rattle.std.proofs.Common.{◌≡◌, inl, inr, List, ℕ, subst}
 use Rattle.d_table.specs.Table.{rows_of, IsFirstOdd}
 use Rattle.d_table.specs.Fault.{IsTableFault}
 use Rattle.d_table.specs.declared.table.TableFault.{TableFault}
-use Rattle.d_model.specs.ScheduleFile.{IsScheduleFault}
+use Rattle.d_bill.specs.ScheduleFile.{IsScheduleFault}
 use Rattle.d_model.specs.Shown.{inputs_of}
-use Rattle.d_model.specs.declared.schedule.ScheduleFault.TheVariants.{Shape}
+use Rattle.d_bill.specs.declared.schedule.ScheduleFault.TheVariants.{Shape}
 use Rattle.d_run.specs.Answer.{RefusesSchedule, refused}
 use Rattle.d_run.specs.declared.fault.Refusal.TheVariants.{Schedule}
 use Rattle.d_run.proofs.OddRows.{no_odd}
