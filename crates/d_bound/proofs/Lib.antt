@@ -1,5 +1,5 @@
-mod RateFacts
+pub mod RateFacts
 mod PlanArcs
 mod PlanSteps
 mod FeasibleWays
-mod LeastWays
+pub mod LeastWays

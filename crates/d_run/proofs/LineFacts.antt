@@ -1,11 +1,6 @@
 -- Lines made part by part.
 use Rattle.std.proofs.Common.{◌≡◌, List, [], ◌∷◌, ◌++◌, append_assoc, refl}
 
--- four parts of a new text
-pub four_parts : {X : Type 0} (old one two three four a b c d : List X) → old ≡ [] → one ≡ old ++ a → two ≡ one ++ b → three ≡ two ++ c → four ≡ three ++ d
-    → four ≡ a ++ (b ++ (c ++ d))
-four_parts {X} old one two three four a b c d e0 e1 e2 e3 e4 = rw (e4, e3, e2, e1, e0) (simp append_assoc refl)
-
 -- the five parts of a record's line: its front, the column's name, the detail, the cell and the line feed
 pub record_parts : {X : Type 0} (blank feed : X) (old one two three four five front number name column detail cell : List X) → old ≡ []
     → one ≡ old ++ (front ++ (number ++ blank ∷ (name ++ blank ∷ []))) → two ≡ one ++ column → three ≡ two ++ (blank ∷ detail) → four ≡ three ++ cell → five ≡ four ++ feed ∷ []
