@@ -1,4 +1,4 @@
 mod PriceFacts
 mod TableFacts
 mod ChargeFacts
-mod JoinFacts
+pub mod JoinFacts

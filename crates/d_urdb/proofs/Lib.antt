@@ -27,3 +27,4 @@ mod FuelFacts
 mod EmptyPeriod
 mod KeptColumns
 mod PeriodLaw
+mod JoinedTiers

@@ -2,6 +2,7 @@
 
 ghost use Rattle.d_urdb.specs.FlatMonths.{ReadsAsInGrids};
 ghost use Rattle.d_urdb.specs.Numbers.{HasOneReader};
+ghost use Rattle.d_urdb.specs.OwnTiers.{ChargesAsRecorded};
 ghost use Rattle.d_urdb.specs.Record.{HasOneOutcome};
 
 /// Each cell of a record is read in exactly one way, so that each record, by its label and the rule of billing, has exactly one outcome.
@@ -10,4 +11,10 @@ pub fn reads_once()
     ensures cells { HasOneReader }
     ensures outcome { HasOneOutcome }
     ensures periods { ReadsAsInGrids }
+{}
+
+/// Where nothing of a period is refused, its table, in which neighbours of one price are one tier, charges every amount as the tiers that
+/// the record has.
+pub fn charges_as_recorded()
+    ensures { ChargesAsRecorded }
 {}

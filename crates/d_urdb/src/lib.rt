@@ -31,6 +31,6 @@ mod values;
 
 pub use cause::refusal_name;
 pub use fault::{RecordFault, Refused};
-pub use law::reads_once;
+pub use law::{charges_as_recorded, reads_once};
 pub use record::read_record;
 pub use rule::RuleChoice;
