@@ -3,6 +3,7 @@ mod RangeFacts
 mod PartFacts
 mod TierFacts
 mod SlopeFacts
+mod TieredFacts
 pub mod LeastFacts
 mod CountFacts
 mod SizeFacts

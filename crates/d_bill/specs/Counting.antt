@@ -1,4 +1,4 @@
--- What the crate's own functions tell each other while they count and charge. No public clause cites it.
+-- How a tally grows by an interval, and how large charges can be.
 use Rattle.std.specs.Prelude.{ℕ, ℤ, pos, ◌*◌, ◌^◌, ◌&&◌, nat_lt, unsigned_abs, List, length, if◌then◌else◌, slice_index_or}
 use Rattle.std.specs.Int.{int_max}
 use Rattle.d_bill.specs.Inputs.{Inputs, is_in_group}

@@ -9,7 +9,7 @@ pub struct Interval {
     pub net: Wh,
     /// The energy period, from 0 to 35.
     pub period: u8,
-    /// What is paid for the export, in units of 10^-18 USD per kWh.
+    /// What is paid for the export, in units of 10^-18 USD per kWh, at most 3000 USD in size.
     pub sell: Rate,
 }
 
@@ -20,7 +20,7 @@ pub struct Arc {
     pub import: Wh,
     /// The energy into the grid, from 0 to 2 * 10^9 Wh.
     pub export: Wh,
-    /// The import's power, evenly over the interval.
+    /// The import's power in W, evenly over the interval.
     pub power: Watt,
 }
 

@@ -15,8 +15,8 @@ impl Problem {
     ghost use Rattle.d_bill.specs.Bills.{sum_of, bill_by, period_charge, group_charge, group_charges};
     ghost use Rattle.d_bill.specs.Counting.{total_limit, group_limit};
 
-    /// The bill of a tally that `walk` or `metered` of this problem wrote: the sum, or the minimum where that is greater. Without a
-    /// minimum it may be below 0. It is at most 10^14 USD in size.
+    /// The bill of a tally that `walk` or `metered` of this problem wrote: the sum, or the minimum (the record's `mincharge`) where that is
+    /// greater. Without a minimum it may be below 0. It is at most 10^14 USD in size.
     pub fn bill(&self, tally: &Tally) -> Money
         requires { IsTallied self.now tally.now }
         ensures value { result ≡ bill_by self.now tally.now }
@@ -30,7 +30,8 @@ impl Problem {
     }
 
     /// What is charged for a tally that `walk` or `metered` of this problem wrote: the fixed charge, what the energy periods charge for
-    /// their imports and the groups for their highest demands, less what is paid for the export. It is at most 10^14 USD in size.
+    /// their imports and the groups for their highest demands, less what is paid for the export of each interval, as SAM's net billing has
+    /// it. It is at most 10^14 USD in size.
     pub fn sum(&self, tally: &Tally) -> Money
         requires { IsTallied self.now tally.now }
         ensures value { result ≡ sum_of self.now tally.now }
@@ -55,7 +56,7 @@ impl Problem {
     }
 
     /// What a period charges for its import.
-    fn period_charge(&self, tally: &Tally, period: u8) -> Money
+    pub fn period_charge(&self, tally: &Tally, period: u8) -> Money
         requires tally { IsTallied self.now tally.now }
         requires period { period < 36 }
         ensures range { IsInRange self.now }
@@ -83,7 +84,7 @@ impl Problem {
     }
 
     /// What a group charges for its highest demand.
-    fn group_charge(&self, tally: &Tally, group: usize) -> Money
+    pub fn group_charge(&self, tally: &Tally, group: usize) -> Money
         requires tally { IsTallied self.now tally.now }
         requires group { group < length self.now.peaks }
         ensures value { result ≡ group_charge self.now tally.now group }

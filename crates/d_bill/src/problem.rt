@@ -62,14 +62,15 @@ impl Model for Problem {
 }
 
 impl Problem {
-    ghost use Rattle.std.specs.Prelude.{◌≡◌, ◌*◌, ◌^◌, ◌<◌, Some, All, IsSome, length, IfSome, option_map, slice_get};
+    ghost use Rattle.std.specs.Prelude.{◌≡◌, ◌↔◌, ◌*◌, ◌^◌, ◌<◌, [], Some, All, IsSome, IsTrue, length, IfSome, option_map, slice_get};
     ghost use Rattle.std.specs.Option.{ForSome};
     ghost use Rattle.d_num.specs.Amount.{IsWithin};
     ghost use Rattle.d_tariff.specs.Terms.{period_at};
     ghost use Rattle.d_model.specs.Shown.{storage_of};
     ghost use Rattle.d_bill.specs.Inputs.{IsInRange, HasPrices, period_in, sell_of, sell_at, is_in_group};
     ghost use Rattle.d_bill.specs.Flows.{net_at};
-    ghost use Rattle.d_bill.specs.Slopes.{tiered_at};
+    ghost use Rattle.d_bill.specs.Slopes.{tiered, tiered_at};
+    ghost use Rattle.d_bill.specs.Law.{IsPlain};
 
     /// The number of intervals.
     pub fn intervals(&self) -> u32
@@ -173,6 +174,26 @@ impl Problem {
             Some(found) => found.tiers.count() > 1,
             None => false,
         }
+    }
+
+    /// Whether no group is charged and no energy period has two tiers or more. Then each period has one price, and a bill's sum is the fixed
+    /// charge and what the energy costs.
+    pub fn is_plain(&self) -> bool
+        ensures { IsTrue result ↔ IsPlain self.now }
+    {
+        self.groups().is_empty() && self.is_untiered()
+    }
+
+    /// Whether no energy period has two tiers or more.
+    fn is_untiered(&self) -> bool
+        ensures { IsTrue result ↔ (tiered self.now ≡ []) }
+    {
+        for period in 0..36u8 {
+            if self.is_tiered(period) {
+                return false;
+            }
+        }
+        true
     }
 
     /// The groups of intervals that are charged for their highest demand: one for each demand period that charges something, in order of

@@ -9,11 +9,11 @@ use std::marker::Model;
 /// contract sees it as these lists.
 #[derive(Drop)]
 pub struct Tally {
-    /// The import of each energy period, by its number.
+    /// The import of each energy period in Wh, by its number.
     pub totals: [Wh; 36],
-    /// The worth of the export.
+    /// What is paid for the export, in units of 10^-21 USD.
     pub credit: Money,
-    /// The greatest power of each group, by its number; 0 where there is no such group.
+    /// The greatest power of each group in W, by its number; 0 where there is no such group.
     pub peaks: [Watt; 37],
 }
 
