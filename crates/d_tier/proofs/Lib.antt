@@ -2,4 +2,4 @@ mod PriceFacts
 mod TableFacts
 pub mod TableGrows
 mod ChargeFacts
-mod JoinFacts
+pub mod JoinFacts

@@ -30,3 +30,4 @@ mod PeriodLaw
 mod ReadBounds
 mod TierTables
 pub mod TariffLaw
+mod JoinedTiers

@@ -5,6 +5,7 @@ pub mod Periods
 pub mod Shown
 pub mod Checks
 pub mod Values
+pub mod OwnTiers
 pub mod Months
 pub mod Items
 pub mod FlatMonths

@@ -3,6 +3,7 @@
 ghost use Rattle.d_urdb.specs.FlatMonths.{ReadsAsInGrids};
 ghost use Rattle.d_urdb.specs.Law.{AcceptsTariffs, AcceptsTables, AcceptsGrids};
 ghost use Rattle.d_urdb.specs.Numbers.{HasOneReader};
+ghost use Rattle.d_urdb.specs.OwnTiers.{ChargesAsRecorded};
 ghost use Rattle.d_urdb.specs.Record.{HasOneOutcome};
 
 /// Each cell of a record is read in exactly one way, so that each record, by its label and the rule of billing, has exactly one outcome.
@@ -20,4 +21,10 @@ pub fn accepts_tariffs()
     ensures tariffs { AcceptsTariffs }
     ensures tables { AcceptsTables }
     ensures grids { AcceptsGrids }
+{}
+
+/// Where nothing of a period is refused, its table, in which neighbours of one price are one tier, charges every amount as the tiers that
+/// the record has.
+pub fn charges_as_recorded()
+    ensures { ChargesAsRecorded }
 {}

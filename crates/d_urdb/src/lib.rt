@@ -31,6 +31,6 @@ mod values;
 
 pub use cause::refusal_name;
 pub use fault::{RecordFault, Refused};
-pub use law::{accepts_tariffs, reads_once};
+pub use law::{accepts_tariffs, charges_as_recorded, reads_once};
 pub use record::read_record;
 pub use rule::RuleChoice;

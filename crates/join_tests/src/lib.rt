@@ -1,0 +1,10 @@
+//! Tests of the problem that a record's tariff, readings and a battery are joined to, over public calls alone: the bills of months that were
+//! worked by hand.
+#![tactic(auto)]
+
+#[cfg(test)]
+mod february;
+#[cfg(test)]
+mod office;
+#[cfg(test)]
+mod rows;
