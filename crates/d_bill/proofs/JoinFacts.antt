@@ -1,5 +1,5 @@
 -- The lists of a joined problem, as they grow.
-use Rattle.std.proofs.Common.{◌≡◌, ℕ, ℤ, ◌+◌, ◌*◌, ◌/◌, ◌%◌, List, [], ◌∷◌, ◌++◌, Option, None, Some, Bool, true, false, if◌then◌else◌, map, All, refl, sym, ap, subst, arith, ◌∙◌}
+use Rattle.std.proofs.Common.{◌≡◌, ℕ, ◌+◌, ◌*◌, ◌/◌, ◌%◌, List, [], ◌∷◌, ◌++◌, Option, None, Some, Bool, true, false, if◌then◌else◌, map, All, refl, sym, ap, subst, arith, ◌∙◌}
 use Rattle.std.specs.List.{filter, range_with_len}
 use Rattle.std.proofs.lemmas.List.{map-id, map-append, append-nil}
 use Rattle.std.proofs.lemmas.List.Elements.{All-append, All-cons}
@@ -21,9 +21,9 @@ pub map_more : {X : Type 0} (f : ℕ → X) (x : X) (n : ℕ) (before after : Li
 map_more f x n before after is so_far here = rw (is, so_far, here) (sym (map-range_with_len_more f 0 n n (omega arith)))
 
 -- the period of one more interval
-pub interval_is : (weekday weekend : List (List ℕ)) (m : Metered) (t minutes number period : ℕ) (year : ℤ) → year ≡ m.year → number ≡ m.number → minutes ≡ m.minutes
-    → period ≡ period_of weekday weekend year number (t * minutes / 1440 + 1) (t * minutes % 1440 / 60) → period ≡ interval_period weekday weekend m t
-interval_is weekday weekend m t minutes number period year same_year same_number same_minutes is = rw (same_year, same_number, same_minutes) at is
+pub interval_is : (weekday weekend : List (List ℕ)) (m : Metered) (t minutes period : ℕ) → minutes ≡ m.minutes
+    → period ≡ period_of weekday weekend m.year m.number (t * minutes / 1440 + 1) (t * minutes % 1440 / 60) → period ≡ interval_period weekday weekend m t
+interval_is weekday weekend m t minutes period same_minutes is = rw same_minutes at is
 
 -- the energy periods of all 36 numbers
 pub energy_all : (terms : Terms) (periods : List ℕ) (n : ℕ) (energy : List (Option Period)) → n ≡ 36 → energy ≡ map (occurring terms periods) (range_with_len 0 n)

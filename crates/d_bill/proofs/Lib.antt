@@ -18,3 +18,4 @@ mod ScheduleLaws
 pub mod ScheduleFound
 mod JoinFacts
 mod JoinRange
+pub mod JoinLaw

@@ -1,10 +1,23 @@
 -- What holds of all problems.
-use Rattle.std.specs.Prelude.{◌≡◌, ℕ, ℤ, ◌+ℤ◌, List, []}
+use Rattle.std.specs.Prelude.{◌≡◌, ℕ, ℤ, ◌^◌, ◌+ℤ◌, List, []}
+use Rattle.d_num.specs.Amount.{IsUpTo}
+use Rattle.d_cal.specs.Calendar.{IsMonth}
+use Rattle.d_tariff.specs.Terms.{Terms, IsTariff, HasTables, HasGrids}
+use Rattle.d_model.specs.Readings.{IsReadings}
+use Rattle.d_model.specs.Storage.{Storage, IsStorage}
 use Rattle.d_bill.specs.Inputs.{Inputs, IsInRange}
+use Rattle.d_bill.specs.Join.{Metered, join_of}
 use Rattle.d_bill.specs.Totals.{tally_by}
 use Rattle.d_bill.specs.Bills.{sum_of, group_charges, IsFirstLeast, IsLeast}
 use Rattle.d_bill.specs.Prices.{cost_of_flow, rate_gaps}
 use Rattle.d_bill.specs.Slopes.{tiered, rates_of, tier_gaps, energy_cost}
+
+-- what is joined of a valid tariff with tables and grids, the readings of a whole month, a battery and an earlier peak of at most 10^13 W
+-- keeps what every problem keeps
+abbrev pub JoinsInRange : Type 0
+JoinsInRange = (terms : Terms) (metered : Metered) (storage : Storage) (prior : ℤ) → IsTariff terms → HasTables terms → HasGrids terms
+    → IsMonth metered.year metered.number → IsReadings metered.year metered.number metered.minutes metered.net → IsStorage storage → IsUpTo (10 ^ 13) prior
+    → IsInRange (join_of terms metered storage prior)
 
 -- whatever the rates are, a bill's sum is the fixed charge and the groups' charges, and to that what the intervals cost at the rates
 -- and by how much the periods' charges are more than that

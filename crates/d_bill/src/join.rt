@@ -38,11 +38,10 @@ impl Problem {
         requires { spec.IsSettled (terms_of tariff.now) (spec.metered_of meter.now) }
         ensures { IfOk result (λ problem. problem ≡ spec.join_of (terms_of tariff.now) (spec.metered_of meter.now) (storage_of battery.now) prior) }
     {
-        let month = civil_month(meter);
         let periods = interval_periods(alloc, &tariff.energy_hours, meter)?;
         let demands = interval_periods(alloc, &tariff.demand_hours, meter)?;
         let energy = occurring_periods(alloc, tariff, periods.as_slice())?;
-        let groups = joined_groups(alloc, tariff, demands.as_slice(), month, prior)?;
+        let groups = joined_groups(alloc, tariff, demands.as_slice(), meter.month, prior)?;
         Ok(Problem {
             month: meter.month,
             minutes: meter.minutes,
@@ -52,19 +51,11 @@ impl Problem {
             energy,
             demand_groups: groups.numbers,
             peaks: groups.peaks,
-            fixed: tariff.fixed_of(month),
-            minimum: tariff.minimum_of(month),
+            fixed: tariff.fixed_of(meter.month),
+            minimum: tariff.minimum_of(meter.month),
             battery: battery.copied(alloc)?,
         })
     }
-}
-
-/// A meter's month.
-fn civil_month(meter: &Meter) -> Month
-    ensures year { result.year ≡ meter.now.month.year }
-    ensures number { result.number ≡ meter.now.month.number }
-{
-    Month::new(meter.month.year(), meter.month.number()).unwrap()
 }
 
 /// The periods of a meter's intervals by a schedule, in order.
@@ -76,13 +67,12 @@ fn interval_periods(
     ensures value { IfOk result (λ periods. periods ≡ spec.interval_periods schedule.now.weekday schedule.now.weekend (spec.metered_of meter.now)) }
     ensures range { IfOk result (λ periods. All (λ number. number < 36) periods) }
 {
-    let month = civil_month(meter);
     let mut periods = Items::new(alloc);
     for t in 0..meter.net.len() as u32 {
         let start = t * u32::from(meter.minutes);
         let day = start / MINUTES_OF_A_DAY + 1;
         let hour = start % MINUTES_OF_A_DAY / MINUTES_OF_AN_HOUR;
-        periods.add(schedule.period_at(month, day as u8, hour as u8))?;
+        periods.add(schedule.period_at(meter.month, day as u8, hour as u8))?;
     }
     Ok(periods)
 }

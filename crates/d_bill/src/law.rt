@@ -1,7 +1,13 @@
 //! What holds of all problems, whatever goes through the meter.
 
-ghost use Rattle.d_bill.specs.Law.{IsPartedSum, IsPartedBySlopes, IsLeastByEnergy};
+ghost use Rattle.d_bill.specs.Law.{JoinsInRange, IsPartedSum, IsPartedBySlopes, IsLeastByEnergy};
 ghost use Rattle.d_bill.specs.ScheduleLaw.{IsReadOnce};
+
+/// The problem that is joined of a valid tariff with tables and grids, the readings of a whole month, a battery and an earlier peak of at
+/// most 10^13 W is in range.
+pub fn joins_in_range()
+    ensures { JoinsInRange }
+{}
 
 /// A bill's sum in parts, at any rates of the energy periods: the fixed charge and the groups' charges, what the intervals cost at the
 /// rates, and by how much the periods' charges are more than that.

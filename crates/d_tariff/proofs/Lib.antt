@@ -1,3 +1,3 @@
-mod EntryFacts
+pub mod EntryFacts
 pub mod HourFacts
-mod MonthFacts
+pub mod MonthFacts

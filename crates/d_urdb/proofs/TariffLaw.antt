@@ -10,7 +10,7 @@ use Rattle.d_text.proofs.GridFacts.{grid-hours}
 use Rattle.d_tier.specs.declared.tier.Tier.{Tier}
 use Rattle.d_tier.specs.Tables.{IsTierTable}
 use Rattle.d_tariff.specs.declared.period.Period.{Period}
-use Rattle.d_tariff.specs.Terms.{Terms, IsTariff, HasEnergyPrices, HasDemandPrices}
+use Rattle.d_tariff.specs.Terms.{Terms, IsTariff, HasEnergyPrices, HasDemandPrices, IsHourGrid, HasGrids, HasTable, HasTables}
 use Rattle.d_columns.specs.declared.names.Structure.{Structure}
 use Rattle.d_columns.specs.declared.names.Structure.TheVariants.{Energy, Demand, FlatDemand}
 use Rattle.d_columns.specs.Tiers.{Row, named_cell, has_tier}
@@ -26,7 +26,7 @@ use Rattle.d_urdb.specs.Charges.{charge_refusals, minimum_refusals, zero_refusal
 use Rattle.d_urdb.specs.FlatMonths.{flat_month, flat_months}
 use Rattle.d_urdb.specs.Ratchets.{ratchet_refusals, ratchet_of, ratchets}
 use Rattle.d_urdb.specs.Record.{record_outcome, column_outcome, one_row_outcome, row_outcome, row_terms, row_refusals, refused_or, labelled_rows, label_name, rule_refusals, energy_section, demand_section, flat_section, adjustment_section}
-use Rattle.d_urdb.specs.Law.{IsHourGrid, HasGrids, HasTable, HasTables, HoldsOfAccepted, AcceptsTariffs, AcceptsTables, AcceptsGrids}
+use Rattle.d_urdb.specs.Law.{HoldsOfAccepted, AcceptsTariffs, AcceptsTables, AcceptsGrids}
 use Rattle.d_urdb.proofs.DemandFacts.{demand_entries, in_range}
 use Rattle.d_urdb.proofs.HourFacts.{zero_in_range, weekday_there, weekend_there}
 use Rattle.d_urdb.proofs.OneReader.{one_reader}

@@ -9,8 +9,7 @@ loop-t-preserved c =
     let weekday = c.args.schedule.now.weekday in
     let weekend = c.args.schedule.now.weekend in
     let m = metered_of c.args.meter.now in
-    let month = c.civil_month-month.ensures in
-    let period = interval_is weekday weekend m c.loop-t.t c.from.result _ c.period_at.result _ month.year month.number c.from.ensures c.period_at.ensures.period in
+    let period = interval_is weekday weekend m c.loop-t.t c.from.result c.period_at.result c.from.ensures c.period_at.ensures.period in
     let range = c.period_at.ensures.range in (
       map_more (interval_period weekday weekend m) _ c.loop-t.t _ _ added c.loop-t.invariant.0 period,
       all_more (λ number. number < 36) _ _ _ added c.loop-t.invariant.1 (omega arith),

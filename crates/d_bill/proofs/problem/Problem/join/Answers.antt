@@ -1,8 +1,8 @@
-use Rattle.std.proofs.Common.{◌<◌, ℕ, All, sym, ap, subst, ◌∙◌}
+use Rattle.std.proofs.Common.{◌<◌, All, sym, ap, subst, ◌∙◌}
 use Rattle.std.specs.Option.{ForSome}
 use Rattle.d_tariff.specs.Shown.{terms_of}
 use Rattle.d_bill.specs.Inputs.{HasPrices}
-use Rattle.d_bill.specs.Join.{metered_of, occurring_periods, demand_groups, joined_peaks}
+use Rattle.d_bill.specs.Join.{metered_of, occurring_periods, demand_groups}
 use Rattle.d_bill.proofs.JoinRange.{joined_fits}
 use Rattle.d_bill.proofs.problem.Problem.join.Goals as goal
 
@@ -20,6 +20,6 @@ invariant_of-result c =
     (c.energy.view_is ∙ c.in_ok-energy.ensures.value ∙ ap (occurring_periods terms) (c.as_slice.ensures ∙ sym c.periods.view_is))
     (subst (All (λ period. ForSome period HasPrices)) (sym c.energy.view_is) c.in_ok-energy.ensures.prices)
     (c.in_ok-groups.ensures.numbers ∙ ap (demand_groups terms) (c.as_slice-2.ensures ∙ sym c.demands.view_is))
-    (c.in_ok-groups.ensures.peaks ∙ ap (λ (number : ℕ). joined_peaks terms number c.in_ok-groups.groups.numbers c.args.prior) c.civil_month-month.ensures.number)
+    c.in_ok-groups.ensures.peaks
     c.in_ok-groups.ensures.prices
     c.fixed_of.ensures.size c.minimum_of.ensures.size c.in_ok-copied-2.field-0.in_range
