@@ -115,7 +115,7 @@ minimum_small None year number is = tt
 minimum_small (Some charge) year number is = month_within charge.unit charge.amount year number (is charge refl).size
 
 pub joins_in_range : JoinsInRange
-joins_in_range terms m storage prior valid tables grids month readings battery earlier =
+joins_in_range terms m storage prior valid tables grids month readings battery =
     joined_fits terms m prior (fixed_of terms m.year m.number) (minimum_of terms m.year m.number) m.net _ _ _ _ _ storage valid month readings
     refl
     refl (periods_below terms.energy_weekday terms.energy_weekend m grids.energy_weekday grids.energy_weekend month)

@@ -1,6 +1,5 @@
 -- What holds of all problems.
-use Rattle.std.specs.Prelude.{◌≡◌, ℕ, ℤ, ◌^◌, ◌+ℤ◌, List, []}
-use Rattle.d_num.specs.Amount.{IsUpTo}
+use Rattle.std.specs.Prelude.{◌≡◌, ℕ, ℤ, ◌+ℤ◌, List, []}
 use Rattle.d_cal.specs.Calendar.{IsMonth}
 use Rattle.d_tariff.specs.Terms.{Terms, IsTariff, HasTables, HasGrids}
 use Rattle.d_model.specs.Readings.{IsReadings}
@@ -16,7 +15,7 @@ use Rattle.d_bill.specs.Slopes.{tiered, rates_of, tier_gaps, energy_cost}
 -- keeps what every problem keeps
 abbrev pub JoinsInRange : Type 0
 JoinsInRange = (terms : Terms) (metered : Metered) (storage : Storage) (prior : ℤ) → IsTariff terms → HasTables terms → HasGrids terms
-    → IsMonth metered.year metered.number → IsReadings metered.year metered.number metered.minutes metered.net → IsStorage storage → IsUpTo (10 ^ 13) prior
+    → IsMonth metered.year metered.number → IsReadings metered.year metered.number metered.minutes metered.net → IsStorage storage
     → IsInRange (join_of terms metered storage prior)
 
 -- whatever the rates are, a bill's sum is the fixed charge and the groups' charges, and to that what the intervals cost at the rates
