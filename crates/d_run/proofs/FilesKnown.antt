@@ -2,8 +2,13 @@
 use Rattle.std.proofs.Common.{◌≡◌, ◌⊎◌, inl, inr, ℕ, ◌*◌, ◌^◌, ◌<◌, ℤ, pos, List, length, get_or, refl, ap, subst, ◌∙◌, arith}
 use Rattle.std.proofs.lemmas.List.{get_or_default}
 use Rattle.jiff_core.specs.Calendar.{days_in_month}
-use Rattle.jiff_core.proofs.CalendarLemmas.{days_in_month_bounds}
-use Rattle.d_num.specs.Amount.{IsWithin, IsRate}
+use Rattle.d_num.specs.Amount.{IsWithin}
+use Rattle.d_tariff.specs.Terms.{Terms}
+use Rattle.d_urdb.specs.declared.rule.RuleChoice.{RuleChoice}
+use Rattle.d_urdb.proofs.TariffLaw.{accepts_tariffs, accepts_tables, accepts_grids}
+use Rattle.d_model.specs.Readings.{IsReadings}
+use Rattle.d_bill.proofs.JoinLaw.{joins_in_range}
+use Rattle.d_run.specs.Record.{IsRecord, rows_with_label}
 use Rattle.d_table.specs.Table.{row_at, IsRectangular}
 use Rattle.d_bill.specs.declared.schedule.ScheduleFault.{ScheduleFault}
 use Rattle.d_bill.specs.declared.schedule.ScheduleFault.TheVariants.{Shape}
@@ -13,7 +18,7 @@ use Rattle.d_bill.specs.ScheduleLaw.{HasOneSchedule, HasOneFault}
 use Rattle.d_bill.proofs.ScheduleFound.{read_once}
 use Rattle.d_run.specs.ReadingsFile.{Hourly, IsHourly}
 use Rattle.d_run.specs.BatteryFile.{IsBatteryFile}
-use Rattle.d_run.specs.Answer.{Answer, refused, RefusesReadings, RefusesBattery, RefusesSchedule, MeansSchedule, hourly_inputs}
+use Rattle.d_run.specs.Answer.{Answer, refused, RefusesReadings, RefusesBattery, RefusesSchedule, MeansSchedule, joined}
 use Rattle.d_run.specs.declared.fault.Refusal.TheVariants.{Readings, Battery, Schedule}
 use Rattle.d_run.proofs.Deciding.{Decided, holds, fails, Found, found, nothing, same_number, each_item}
 use Rattle.d_run.proofs.StageFacts.{IsKnown, known_refused, known_value}
@@ -70,25 +75,27 @@ schedule_known i rows fine = by_shape (each_item (λ row. length row ≡ length 
     by_shape (holds even) = by_law even (read_once i rows fine)
     by_shape (fails none) = known_refused (refused (Schedule Shape)) (inl (none, refl)) (shape_only none) (λ value means. none means.0)
 
--- what the files mean is in range
-pub hourly_in_range : (readings stored : List (List (List ℕ))) (price : ℤ) (month : Hourly) (storage : Storage)
-    → IsRate price → IsHourly readings month → IsBatteryFile stored storage → IsInRange (hourly_inputs price month storage)
-hourly_in_range readings stored price month storage fair is_month battery =
-    let days = days_in_month_bounds month.year month.number in
-    let whole : length month.net ≡ days_in_month month.year month.number * 24 = is_month.readings.whole in
-    record {
-      month = is_month.month;
-      minutes = refl;
-      whole = omega (arith, whole);
-      some_interval = omega (arith, whole, days.1);
-      few_intervals = omega (arith, whole, days.0);
-      net = λ t d lt. net_small t d lt;
-      price = fair;
-      storage = battery.valid;
-    }
+-- a month of readings is whole and within its limits
+month_fits : (rows : List (List (List ℕ))) (month : Hourly) → IsHourly rows month → IsReadings month.year month.number 60 month.net
+month_fits rows month is = record { pace = refl; whole = whole; small = λ t d lt. net_small t d lt }
   where
+    hours : (count days : ℕ) → count ≡ days * 24 → count * 60 ≡ days * 1440
+    hours count days e = omega arith
+
+    whole : length month.net * 60 ≡ days_in_month month.year month.number * 1440
+    whole = hours (length month.net) (days_in_month month.year month.number) is.readings.whole
+
     net_small : (t : ℕ) (d : ℤ) → t < length month.net → IsWithin (10 ^ 9) (get_or month.net t d)
     net_small t d lt =
-        let row = is_month.readings.each t lt in
+        let row = is.readings.each t lt in
         let same : get_or month.net t (pos 0) ≡ get_or month.net t d = get_or_default month.net t (pos 0) d lt in
         subst (λ (z : ℤ). IsWithin (10 ^ 9) z) same (reading_small row.value (get_or month.net t (pos 0)) row.reading)
+
+-- what a record, readings and a battery mean is in range
+pub joined_in_range : (records readings : List (List (List ℕ))) (label : List ℕ) (rule : RuleChoice) (terms : Terms) (month : Hourly) (prior : ℤ) (storage : Storage)
+    → IsRecord records label rule terms → IsHourly readings month → IsStorage storage → IsInRange (joined terms month prior storage)
+joined_in_range records readings label rule terms month prior storage record_is month_is storage_is =
+    let kept = rows_with_label label records in
+    joins_in_range terms (record { year = month.year; number = month.number; minutes = 60; net = month.net }) storage prior
+    (accepts_tariffs kept label rule terms record_is.is) (accepts_tables kept label rule terms record_is.is) (accepts_grids kept label rule terms record_is.is)
+    month_is.month (month_fits readings month month_is) storage_is

@@ -1,30 +1,36 @@
 -- To every list of words and all files there is exactly one answer.
-use Rattle.std.proofs.Common.{◌≡◌, ◌⊎◌, inl, inr, ℕ, ◌<◌, ◌≤◌, ℤ, List, length, refl, sym, ap, subst, ◌∙◌, arith}
+use Rattle.std.proofs.Common.{◌≡◌, ◌⊎◌, inl, inr, ℕ, ◌<◌, ◌≤◌, List, [], ◌∷◌, codes, length, refl, sym, ap, subst, ◌∙◌, arith}
 use Rattle.d_desk.specs.Scene.{Files, bytes_in}
 use Rattle.d_bill.specs.Inputs.{Inputs, IsInRange}
 use Rattle.d_bill.specs.Schedules.{IsFeasible, IsFirstBreak}
-use Rattle.d_bill.specs.Bills.{IsFirstLeast, bill_of}
-use Rattle.d_bill.proofs.Laws.{first_least_same, break_excludes, first_break_same}
+use Rattle.d_bill.specs.Law.{IsPlain}
+use Rattle.d_bill.specs.Slopes.{tiered}
+use Rattle.d_bill.specs.Totals.{tally_of}
+use Rattle.d_bill.proofs.Laws.{break_excludes, first_break_same}
+use Rattle.d_bill.proofs.LeastFacts.{least_of_energy}
+use Rattle.d_bound.specs.Law.{IsOnlyFirst}
+use Rattle.d_bound.proofs.RateFacts.{fair_of}
+use Rattle.d_bound.proofs.LeastWays.{has_one_first}
 use Rattle.d_words.specs.Words.{Asked, Wanted, IsRequest, plan_with, metered_bill as wants_metered_bill, schedule_bill}
-use Rattle.d_run.specs.Text.{plan_text, bill_text, break_text}
-use Rattle.d_num.specs.Amount.{IsRate}
-use Rattle.d_tariff.specs.Terms.{Terms}
-use Rattle.d_run.specs.Record.{IsRecord, IsOnePrice}
+use Rattle.d_report.specs.Charges.{bill_text}
+use Rattle.d_report.specs.Plans.{plan_text}
+use Rattle.d_run.specs.Text.{break_text}
+use Rattle.d_run.specs.Record.{IsRecord}
 use Rattle.d_run.specs.BatteryFile.{IsBatteryFile}
-use Rattle.d_run.specs.ReadingsFile.{Hourly, IsHourly}
-use Rattle.d_run.specs.Answer.{Answer, Reads, is_too_long, is_refused, goes_on, says, after_opening, refused, IsPlanned, no_schedule, least, IsBilled, billed, broken, IsFor, IsPriced, no_price, one_price, IsWithTerms, IsAnswerTo, IsAnswer, rule_of, no_request, request, hourly_inputs, rows_in, ReadsSchedule, RefusesRecord, RefusesReadings, RefusesBattery, RefusesSchedule, MeansSchedule, longest_file, longest_record}
+use Rattle.d_model.specs.Storage.{Storage, IsStorage}
+use Rattle.d_report.specs.Lines.{line}
+use Rattle.d_run.specs.ReadingsFile.{IsHourly}
+use Rattle.d_run.specs.Answer.{Answer, Reads, is_too_long, is_refused, goes_on, says, after_opening, refused, IsPlanned, no_schedule, least, IsBilled, billed, broken, IsFor, IsPlannable, has_group, has_tiers, is_plain, no_storage, joined, IsWithTerms, IsAnswerTo, IsAnswer, rule_of, no_request, request, rows_in, ReadsBattery, ReadsSchedule, RefusesRecord, RefusesReadings, RefusesBattery, RefusesSchedule, MeansSchedule, longest_file, longest_record}
 use Rattle.d_run.specs.Law.{HasAnswer}
 use Rattle.d_run.specs.declared.verdict.Verdict.TheVariants as verdict
 use Rattle.d_run.specs.declared.fault.Refusal.{Refusal}
-use Rattle.d_run.specs.declared.fault.Refusal.TheVariants.{Words, LongRecord, LongReadings, NotYet, LongBattery, LongSchedule}
+use Rattle.d_run.specs.declared.fault.Refusal.TheVariants.{Words, LongRecord, LongReadings, GroupsNotYet, TiersNotYet, LongBattery, LongSchedule}
 use Rattle.d_run.proofs.StageFacts.{IsKnown, known_refused, known_value}
-use Rattle.d_run.proofs.LeastWays.{exists_least}
-use Rattle.d_run.proofs.Deciding.{Decided, holds, fails, Found, found, nothing, at_most}
+use Rattle.d_run.proofs.Deciding.{Decided, holds, fails, at_most}
 use Rattle.d_words.proofs.RequestFound.{request_or_none, one_request}
 use Rattle.d_run.proofs.RecordFound.{record_known}
-use Rattle.d_run.proofs.RecordRates.{price_in_range}
-use Rattle.d_run.proofs.PriceFound.{price_found, price_same}
-use Rattle.d_run.proofs.FilesKnown.{month_known, battery_known, schedule_known, hourly_in_range}
+use Rattle.d_run.proofs.FilesKnown.{month_known, battery_known, schedule_known, joined_in_range}
+use Rattle.d_run.proofs.PlanStages.{plain_follows}
 use Rattle.d_run.proofs.ScheduleBreaks.{break_or_feasible}
 
 -- an answer of which this holds, and of no other
@@ -69,28 +75,55 @@ module _ {V : Type 0} (files : Files) (name : List ℕ) (limit : ℕ) (too_long 
           let above : limit < length (bytes_in files name) = omega arith in
           record { answer = after_opening name (refused too_long); is = is_too_long above refl; only = long_only above }
 
--- inputs in range have one plan
-planned_one : (i : Inputs) (label : List ℕ) → IsInRange i → HasOne (IsPlanned i label)
-planned_one i label fine = by_schedule (exists_least i fine)
+-- plain inputs in range have one plan
+planned_one : (i : Inputs) (label : List ℕ) → IsInRange i → IsPlain i → HasOne (IsPlanned i label)
+planned_one i label fine plain = by_schedule (has_one_first i (fair_of i fine))
   where
-    no_other : ((s : List ℕ) → IsFeasible i s → ⊥) → (a b : Answer) → IsPlanned i label a → IsPlanned i label b → a ≡ b
-    no_other none a b (no_schedule n is) (no_schedule m is2) = is ∙ sym is2
-    no_other none a b (least s first is) other = absurd (none s first.least.feasible)
-    no_other none a b one (least s first is) = absurd (none s first.least.feasible)
+    no_other : ((s : List ℕ) → IsFeasible i s → ⊥) → (a : Answer) → IsPlanned i label a → a ≡ says verdict.NoSchedule (line (codes "no schedule"))
+    no_other none a (no_schedule also is) = is
+    no_other none a (least s first also is) = absurd (none s first.feasible)
 
-    least_other : (s : List ℕ) → IsFirstLeast i s → (a : Answer) → IsPlanned i label a → a ≡ says verdict.Done (plan_text i label s)
-    least_other s first a (no_schedule none is) = absurd (none s first.least.feasible)
-    least_other s first a (least z second is) = is ∙ ap (λ (w : List ℕ). says verdict.Done (plan_text i label w)) (first_least_same i z s second first)
+    least_other : (s : List ℕ) → IsOnlyFirst i s → (a : Answer) → IsPlanned i label a → a ≡ says verdict.Done (plan_text i label s)
+    least_other s only a (no_schedule none is) = absurd (none s only.first.feasible)
+    least_other s only a (least z second also is) = is ∙ ap (λ (w : List ℕ). says verdict.Done (plan_text i label w)) (only.only z second)
 
-    by_schedule : ((s : List ℕ) → IsFeasible i s → ⊥) ⊎ ((s : List ℕ) × IsFirstLeast i s) → HasOne (IsPlanned i label)
-    by_schedule (inl none) = record { answer = _; is = no_schedule none refl; only = λ other is. no_other none other _ is (no_schedule none refl) }
-    by_schedule (inr first) = record { answer = _; is = least first.0 first.1 refl; only = least_other first.0 first.1 }
+    by_schedule : ((s : List ℕ) → IsFeasible i s → ⊥) ⊎ ((s : List ℕ) × IsOnlyFirst i s) → HasOne (IsPlanned i label)
+    by_schedule (inl none) = record { answer = _; is = no_schedule none refl; only = no_other none }
+    by_schedule (inr first) =
+        record { answer = _; is = least first.0 first.1.first (least_of_energy i first.0 fine plain first.1.first) refl; only = least_other first.0 first.1 }
+
+-- a list is empty or not
+empty_or_not : {X : Type 0} (list : List X) → (list ≡ []) ⊎ (list ≡ [] → ⊥)
+empty_or_not {X} [] = inl refl
+empty_or_not {X} (x ∷ xs) = inr (λ same. cc)
+
+-- a month is planned in one way, or refused for one cause
+plannable_one : (i : Inputs) (Next : Answer → Type 0) → (IsPlain i → HasOne Next) → HasOne (IsPlannable i Next)
+plannable_one i Next next = by_groups (empty_or_not i.peaks) (empty_or_not (tiered i))
+  where
+    group_only : (i.peaks ≡ [] → ⊥) → (other : Answer) → IsPlannable i Next other → other ≡ refused GroupsNotYet
+    group_only some other (has_group also is) = is
+    group_only some other (has_tiers none also is) = absurd (some none)
+    group_only some other (is_plain plain follows) = absurd (some plain.groups)
+
+    tiers_only : i.peaks ≡ [] → (tiered i ≡ [] → ⊥) → (other : Answer) → IsPlannable i Next other → other ≡ refused TiersNotYet
+    tiers_only none some other (has_group also is) = absurd (also none)
+    tiers_only none some other (has_tiers also more is) = is
+    tiers_only none some other (is_plain plain follows) = absurd (some plain.tiers)
+
+    plain_one : (plain : IsPlain i) → HasOne Next → HasOne (IsPlannable i Next)
+    plain_one plain one = record { answer = one.answer; is = is_plain plain one.is; only = λ other is. one.only other (plain_follows i Next plain other is) }
+
+    by_groups : (i.peaks ≡ []) ⊎ (i.peaks ≡ [] → ⊥) → (tiered i ≡ []) ⊎ (tiered i ≡ [] → ⊥) → HasOne (IsPlannable i Next)
+    by_groups (inr some) tiers = record { answer = _; is = has_group some refl; only = group_only some }
+    by_groups (inl none) (inr some) = record { answer = _; is = has_tiers none some refl; only = tiers_only none some }
+    by_groups (inl none) (inl flat) = let plain : IsPlain i = record { groups = none; tiers = flat } in plain_one plain (next plain)
 
 -- a schedule has one bill, or one first break
 billed_one : (i : Inputs) (label schedule : List ℕ) → length schedule ≡ length i.net → HasOne (IsBilled i label schedule)
 billed_one i label schedule long = by_break (break_or_feasible i schedule long)
   where
-    bill_only : IsFeasible i schedule → (a : Answer) → IsBilled i label schedule a → a ≡ says verdict.Done (bill_text i label (bill_of i schedule))
+    bill_only : IsFeasible i schedule → (a : Answer) → IsBilled i label schedule a → a ≡ says verdict.Done (bill_text i label (tally_of i schedule))
     bill_only feasible a (billed also is) = is
     bill_only feasible a (broken t first is) = absurd (break_excludes i schedule t first feasible)
 
@@ -106,55 +139,38 @@ billed_one i label schedule long = by_break (break_or_feasible i schedule long)
 said_one : (answer : Answer) → HasOne (λ a. a ≡ answer)
 said_one answer = record { answer = answer; is = refl; only = λ other is. is }
 
--- terms and a month have one answer
-priced_one : (terms : Terms) (month : Hourly) (Next : ℤ → Answer → Type 0) → ((price : ℤ) → IsOnePrice terms month.year month.number price → HasOne (Next price))
-    → HasOne (IsPriced terms month Next)
-priced_one terms month Next next = by_price (price_found terms month.year month.number)
-  where
-    refused_only : ((price : ℤ) → IsOnePrice terms month.year month.number price → ⊥) → (other : Answer) → IsPriced terms month Next other → other ≡ refused NotYet
-    refused_only none other (no_price also is) = is
-    refused_only none other (one_price price priced follows) = absurd (none price priced)
-
-    price_only : (price : ℤ) → IsOnePrice terms month.year month.number price → (one : HasOne (Next price)) → (other : Answer) → IsPriced terms month Next other → other ≡ one.answer
-    price_only price is one other (no_price none end) = absurd (none price is)
-    price_only price is one other (one_price also priced follows) =
-        let P : ℤ → Type 0 = λ p. Next p other in
-        one.only other (subst P (price_same terms month.year month.number also price priced is) follows)
-
-    by_price : Found (IsOnePrice terms month.year month.number) → HasOne (IsPriced terms month Next)
-    by_price (nothing none) = record { answer = refused NotYet; is = no_price none refl; only = refused_only none }
-    by_price (found price is) =
-        let one = next price is in
-        record { answer = one.answer; is = one_price price is one.is; only = price_only price is one }
-
 -- the answer to a request is one
 module _ (files : Files) (asked : Asked) where
-  task_one : (price : ℤ) (month : Hourly) (wanted : Wanted) → IsRate price → IsHourly (rows_in files asked.readings) month
-      → HasOne (IsFor files asked.label price month wanted)
-  task_one price month (plan_with battery) fair month_is =
+  task_one : (problem : Storage → Inputs) (wanted : Wanted) → ((storage : Storage) → IsStorage storage → IsInRange (problem storage))
+      → ((storage : Storage) → IsPlain (problem no_storage) → IsPlain (problem storage))
+      → HasOne (IsFor files asked.label problem wanted)
+  task_one problem (plan_with battery) fine plain =
+      plannable_one (problem no_storage) (ReadsBattery files battery (λ storage. IsPlanned (problem storage) asked.label))
+      (λ flat. reads_one files battery longest_file LongBattery (RefusesBattery (rows_in files battery)) (IsBatteryFile (rows_in files battery))
+      (λ storage. IsPlanned (problem storage) asked.label) (battery_known (rows_in files battery))
+      (λ storage means. planned_one (problem storage) asked.label (fine storage means.valid) (plain storage flat)))
+  task_one problem wants_metered_bill fine plain = said_one _
+  task_one problem (schedule_bill battery schedule) fine plain =
       reads_one files battery longest_file LongBattery (RefusesBattery (rows_in files battery)) (IsBatteryFile (rows_in files battery))
-      (λ storage. IsPlanned (hourly_inputs price month storage) asked.label) (battery_known (rows_in files battery))
-      (λ storage means. planned_one (hourly_inputs price month storage) asked.label
-      (hourly_in_range (rows_in files asked.readings) (rows_in files battery) price month storage fair month_is means))
-  task_one price month wants_metered_bill fair month_is = said_one _
-  task_one price month (schedule_bill battery schedule) fair month_is =
-      reads_one files battery longest_file LongBattery (RefusesBattery (rows_in files battery)) (IsBatteryFile (rows_in files battery))
-      (λ storage. ReadsSchedule files schedule (hourly_inputs price month storage) (IsBilled (hourly_inputs price month storage) asked.label))
+      (λ storage. ReadsSchedule files schedule (problem storage) (IsBilled (problem storage) asked.label))
       (battery_known (rows_in files battery))
-      (λ storage means. reads_one files schedule longest_file LongSchedule (RefusesSchedule (hourly_inputs price month storage) (rows_in files schedule))
-      (MeansSchedule (hourly_inputs price month storage) (rows_in files schedule)) (IsBilled (hourly_inputs price month storage) asked.label)
-      (schedule_known (hourly_inputs price month storage) (rows_in files schedule) means.valid)
-      (λ modes is. billed_one (hourly_inputs price month storage) asked.label modes is.1.long))
+      (λ storage means. reads_one files schedule longest_file LongSchedule (RefusesSchedule (problem storage) (rows_in files schedule))
+      (MeansSchedule (problem storage) (rows_in files schedule)) (IsBilled (problem storage) asked.label)
+      (schedule_known (problem storage) (rows_in files schedule) (fine storage means.valid).storage)
+      (λ modes is. billed_one (problem storage) asked.label modes is.1.long))
 
   request_one : HasOne (IsAnswerTo files asked)
   request_one =
       let records = rows_in files asked.records in
-      reads_one files asked.records longest_record LongRecord (RefusesRecord records asked.label (rule_of asked.net_billing)) (IsRecord records asked.label (rule_of asked.net_billing))
-      (IsWithTerms files asked) (record_known records asked.label (rule_of asked.net_billing))
-      (λ terms record_is. reads_one files asked.readings longest_file LongReadings (RefusesReadings (rows_in files asked.readings)) (IsHourly (rows_in files asked.readings))
-      (λ month. IsPriced terms month (λ price. IsFor files asked.label price month asked.wanted)) (month_known (rows_in files asked.readings))
-      (λ month month_is. priced_one terms month (λ price. IsFor files asked.label price month asked.wanted)
-      (λ price one. task_one price month asked.wanted (price_in_range records asked.label (rule_of asked.net_billing) terms month.year month.number price record_is one) month_is)))
+      let readings = rows_in files asked.readings in
+      let rule = rule_of asked.net_billing in
+      reads_one files asked.records longest_record LongRecord (RefusesRecord records asked.label rule) (IsRecord records asked.label rule)
+      (IsWithTerms files asked) (record_known records asked.label rule)
+      (λ terms record_is. reads_one files asked.readings longest_file LongReadings (RefusesReadings readings) (IsHourly readings)
+      (λ month. IsFor files asked.label (joined terms month asked.prior_peak) asked.wanted) (month_known readings)
+      (λ month month_is. task_one (joined terms month asked.prior_peak) asked.wanted
+      (λ storage is. joined_in_range records readings asked.label rule terms month asked.prior_peak storage record_is month_is is)
+      (λ storage flat. record { groups = flat.groups; tiers = flat.tiers })))
 
 -- to words and files there is one answer
 pub one_answer : (words : List (List ℕ)) (files : Files) → HasAnswer words files

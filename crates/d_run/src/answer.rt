@@ -216,6 +216,8 @@ fn bill_of_problem<D: Desk>(
     ensures told { D.tells → Prepares (BillsSchedule schedule.now label.now problem.now) (D.scene desk.old) (D.scene desk.new) result }
     ensures cause { IsCaused (D.faults desk.old) (D.faults desk.new) result }
 {
+    // shows the ranges of the problem
+    let _count = problem.intervals();
     let modes = load_schedule(alloc, desk, schedule, problem)?;
     Ok(schedule_bill(alloc, label, problem, modes.as_slice())?)
 }

@@ -43,6 +43,14 @@ pub fn check_plannable(
 {
     let battery = no_battery(alloc)?;
     let problem = join_month(alloc, request, tariff, meter, &battery)?;
+    check_plain(alloc, &problem)
+}
+
+/// Tests that a problem has no group that is charged and no tiered energy period.
+fn check_plain(alloc: Global, problem: &Problem) -> Result<(), Fault>
+    ensures plain { OnOk result (IsPlain problem.now) }
+    ensures refused { IfErr result (EndsBy (IsPlannable problem.now (λ _. ⊥))) }
+{
     if !problem.groups().is_empty() {
         return Err(Refusal::GroupsNotYet.fault(alloc));
     }

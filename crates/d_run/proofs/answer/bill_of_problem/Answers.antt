@@ -24,6 +24,6 @@ returns-clause-told g c t =
     let rows = rows_in x.files c.args.schedule.now in
     let loaded = c.in_ok-modes.ensures.told t in
     stage_goes_on c.args.schedule.now longest_file LongSchedule (RefusesSchedule i rows) (MeansSchedule i rows) (IsBilled i c.args.label.now)
-    x (g.D.Desk.scene c.load_schedule.new.desk) _ c.in_ok-modes.modes.items (Ok c.in_ok-schedule_bill.field-0) (schedule_known i rows c.requires.storage) loaded.0 loaded.1.0 loaded.1.1
+    x (g.D.Desk.scene c.load_schedule.new.desk) _ c.in_ok-modes.modes.items (Ok c.in_ok-schedule_bill.field-0) (schedule_known i rows c.intervals-count.ensures.range.storage) loaded.0 loaded.1.0 loaded.1.1
     (reply_prepared (IsBilled i c.args.label.now c.in_ok-modes.modes.items) (g.D.Desk.scene c.load_schedule.new.desk) c.in_ok-schedule_bill.field-0
     (let P : List ℕ → Type 0 = λ modes. IsReply (IsBilled i c.args.label.now modes) c.in_ok-schedule_bill.field-0 in subst P c.as_slice.ensures.value c.in_ok-schedule_bill.ensures))

@@ -1,4 +1,4 @@
-use Rattle.std.proofs.Common.{ℕ, List, [], refl, ap, ◌∙◌, codes}
+use Rattle.std.proofs.Common.{ℕ, List, refl, ap, ◌∙◌, codes}
 use Rattle.std.proofs.lemmas.Option.{MatchOption-at_some, MatchOption-at_none}
 use Rattle.std.proofs.lemmas.Result.{IfOk-weaker}
 use Rattle.d_bill.specs.Schedules.{IsFeasible}
@@ -18,7 +18,7 @@ returns-in-Some c =
     let i = c.args.problem.now in
     let schedule = c.in-Some.schedule in
     let first : IsFirstLeast i (energy_cost i) schedule.items =
-        MatchOption-at_some ((s : List ℕ) → IsFeasible i s → ⊥) (λ found. IsFirstLeast i (energy_cost i) found.items) schedule c.in-Some.is c.in_ok-cheapest_schedule.ensures in
+        MatchOption-at_some ((s : List ℕ) → IsFeasible i s → ⊥) (λ found. IsFirstLeast i (energy_cost i) found.items) schedule c.in-Some.is c.in_ok-schedule.ensures in
     IfOk-weaker c.plan_reply.result (Shows verdict.Done (plan_text i c.args.label.now c.as_slice.result.now)) _
     (λ (reply : Reply) shows. record {
       answer = says verdict.Done (plan_text i c.args.label.now schedule.items);
@@ -28,11 +28,11 @@ returns-in-Some c =
       alone = refl;
     }) c.plan_reply.ensures
 
-pub returns : goal.returns
-returns c =
+pub returns-in-None : goal.returns-in-None
+returns-in-None c =
     let i = c.args.problem.now in
     let none : (s : List ℕ) → IsFeasible i s → ⊥ =
-        MatchOption-at_none ((s : List ℕ) → IsFeasible i s → ⊥) (λ found. IsFirstLeast i (energy_cost i) found.items) c.in-None.is c.in_ok-cheapest_schedule.ensures in
+        MatchOption-at_none ((s : List ℕ) → IsFeasible i s → ⊥) (λ found. IsFirstLeast i (energy_cost i) found.items) c.in-None.is c.in_ok-schedule.ensures in
     IfOk-weaker c.no_plan_reply.result (Shows verdict.NoSchedule (line (codes "no schedule"))) _
     (λ (reply : Reply) shows. record {
       answer = says verdict.NoSchedule (line (codes "no schedule"));
