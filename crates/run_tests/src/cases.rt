@@ -33,13 +33,18 @@ pub fn example(alloc: Global) -> Result<MemoryDesk, Fail> {
     Ok(desk)
 }
 
-/// What a run of these words answers: its status and the last line that it prints.
+/// What a run of these words answers: its status, and the line of the bill where it prints a bill, else the last line.
 pub fn answer(alloc: Global, line: &str, desk: &mut MemoryDesk) -> Result<String, Fail> {
     let words = words(alloc, line)?;
     let status = run(alloc, words.as_slice(), desk).number();
     let printed = str::from_utf8(desk.printed_bytes())?;
-    let last = printed.lines().last().unwrap_or("");
-    Ok(format!(in alloc; "{status} {last}")?)
+    let mut told = printed.lines().last().unwrap_or("");
+    for shown in printed.lines() {
+        if line.starts_with("bill ") && shown.starts_with("bill ") {
+            told = shown;
+        }
+    }
+    Ok(format!(in alloc; "{status} {told}")?)
 }
 
 /// Runs the words once a case, with the case's file on the desk. The cases are cut by `|`, and each is the file's text behind the

@@ -20,11 +20,11 @@ fn moving(alloc: Global, settings: &str, place: usize, others: &str) -> Result<M
     Ok(desk)
 }
 
-/// The lines of the head and of the hours that don't idle.
+/// The line of the bill and those of the hours that don't idle.
 fn telling_lines(alloc: Global, printed: &str) -> Result<String, Fail> {
     let mut lines = String::new(alloc);
     for line in printed.lines() {
-        if !line.contains(" idle ") {
+        if line.starts_with("bill ") || line.starts_with("2025-") && !line.contains(" idle ") {
             lines.push_str(line)?;
             lines.push_str("\n")?;
         }
@@ -44,12 +44,10 @@ fn check_plan(
     let status = run(alloc, words.as_slice(), desk);
     let printed = str::from_utf8(desk.printed_bytes())?;
     let lines = telling_lines(alloc, printed)?;
-    let wanted = format!(in alloc;
-        "dispatch plan\nlabel L\nmonth 2025-02\nminutes 60\nverdict least\nbill {bill}\n{moves}"
-    )?;
+    let wanted = format!(in alloc; "bill {bill}\n{moves}")?;
     if status == Status::Done
         && lines == wanted
-        && printed.lines().count() == 678
+        && printed.lines().count() == 685
         && printed.contains(part)
     {
         Ok(())

@@ -13,8 +13,8 @@ fn a_record_is_read_or_refused_in_one_line(rt: HostRuntime) -> Result<(), Fail> 
         "\nL,-0.10\n>0 bill -67.20|\n L\t,\t1e-1 \n>0 bill 67.20|\nM,x\nL,0.10\nN,\n>0 bill 67.20\
         |\nM\nL,0.10\n>2 refused record 0 Shape 0|\nM,0.10\n>2 refused record 1 NoLabel none 0\
         |\nL,0.1000000000000000001\n>2 refused record 4 Decimal energyratestructure/period0/tier0rate 3 0.1000000000000000001\
-        |\nL,\n>2 refused record 6 EnergyMissing none 0|,fixedchargefirstmeter\nL,0.10,5\n>2 refused record 23 NotYet none 1\
-        |,energyratestructure/period0/tier0sell\nL,0.10,0.05\n>2 refused record 23 NotYet none 1\
+        |\nL,\n>2 refused record 6 EnergyMissing none 0|,fixedchargefirstmeter\nL,0.10,5\n>0 bill 72.20\
+        |,energyratestructure/period0/tier0sell\nL,0.10,0.05\n>0 bill 67.20\
         |,demandrateunit\nL,0.10,\u{e9}23456789012345678901234567890123456789012345678901234567890X\
         \n>2 refused record 12 DemandUnit demandrateunit 0 ??2345678901234567890123456789012345678901234567890123456789",
     )

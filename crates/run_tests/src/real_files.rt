@@ -26,7 +26,8 @@ fn plans_the_example_though_every_other_call_is_interrupted(rt: HostRuntime) -> 
     let printed = signals.into_printed();
     assert_eq!(rt; status, Status::Done);
     let head =
-        b"dispatch plan\nlabel L\nmonth 2025-02\nminutes 60\nverdict least\nbill 67.20\n2025-02-01T00:00 idle 0 1000\n";
+        b"dispatch plan\nlabel L\nmonth 2025-02\nminutes 60\nverdict least\nbill 67.20\nmetered 67.20\nboxes 1\n\
+        period 0 import 672000 charge 67.20\ncredit 0.00\nfixed 0.00\nsum 67.20\nminimum none\n2025-02-01T00:00 idle 0 1000\n";
     assert!(rt; printed.as_slice().starts_with(head));
     assert!(rt;
         printed

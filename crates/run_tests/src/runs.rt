@@ -12,7 +12,8 @@ fn plans_the_example(rt: HostRuntime) -> Result<(), Fail> {
     let words = words(alloc, PLAN)?;
     assert_eq!(rt; run(alloc, words.as_slice(), &mut desk), Status::Done);
     let head =
-        b"dispatch plan\nlabel L\nmonth 2025-02\nminutes 60\nverdict least\nbill 67.20\n2025-02-01T00:00 idle 0 1000\n";
+        b"dispatch plan\nlabel L\nmonth 2025-02\nminutes 60\nverdict least\nbill 67.20\nmetered 67.20\nboxes 1\n\
+        period 0 import 672000 charge 67.20\ncredit 0.00\nfixed 0.00\nsum 67.20\nminimum none\n2025-02-01T00:00 idle 0 1000\n";
     assert!(rt; desk.printed_bytes().starts_with(head));
     assert!(rt;
         desk.printed_bytes()
@@ -30,7 +31,9 @@ fn bills_the_readings_alone(rt: HostRuntime) -> Result<(), Fail> {
     assert_eq!(rt; run(alloc, words.as_slice(), &mut desk), Status::Done);
     assert_eq!(rt;
         desk.printed_bytes(),
-        b"dispatch bill\nlabel L\nmonth 2025-02\nminutes 60\nbill 67.20\n".as_slice()
+        b"dispatch bill\nlabel L\nmonth 2025-02\nminutes 60\nbill 67.20\nperiod 0 import 672000 charge 67.20\ncredit 0.00\n\
+        fixed 0.00\nsum 67.20\nminimum none\n"
+            .as_slice()
     );
     assert_eq!(rt; desk.openings().len(), 2);
     Ok(())

@@ -18,7 +18,7 @@ returns-in-Some c =
     let i = c.args.problem.now in
     let schedule = c.in-Some.schedule in
     let first : IsFirstLeast i (energy_cost i) schedule.items =
-        MatchOption-at_some ((s : List ℕ) → IsFeasible i s → ⊥) (λ found. IsFirstLeast i (energy_cost i) found.items) schedule c.in-Some.is c.in_ok-schedule.ensures in
+    MatchOption-at_some ((s : List ℕ) → IsFeasible i s → ⊥) (λ found. IsFirstLeast i (energy_cost i) found.items) schedule c.in-Some.is c.in_ok-schedule.ensures in
     IfOk-weaker c.plan_reply.result (Shows verdict.Done (plan_text i c.args.label.now c.as_slice.result.now)) _
     (λ (reply : Reply) shows. record {
       answer = says verdict.Done (plan_text i c.args.label.now schedule.items);
@@ -32,7 +32,7 @@ pub returns-in-None : goal.returns-in-None
 returns-in-None c =
     let i = c.args.problem.now in
     let none : (s : List ℕ) → IsFeasible i s → ⊥ =
-        MatchOption-at_none ((s : List ℕ) → IsFeasible i s → ⊥) (λ found. IsFirstLeast i (energy_cost i) found.items) c.in-None.is c.in_ok-schedule.ensures in
+    MatchOption-at_none ((s : List ℕ) → IsFeasible i s → ⊥) (λ found. IsFirstLeast i (energy_cost i) found.items) c.in-None.is c.in_ok-schedule.ensures in
     IfOk-weaker c.no_plan_reply.result (Shows verdict.NoSchedule (line (codes "no schedule"))) _
     (λ (reply : Reply) shows. record {
       answer = says verdict.NoSchedule (line (codes "no schedule"));
