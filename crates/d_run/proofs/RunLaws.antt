@@ -1,11 +1,11 @@
 -- How a run ends by what it has prepared and printed, over plain scenes.
-use Rattle.std.proofs.Common.{◌≡◌, ℕ, List, ◌++◌, Err, refl, ap, subst, ◌∙◌}
+use Rattle.std.proofs.Common.{◌≡◌, inl, inr, ℕ, List, ◌++◌, Err, refl, sym, ap, subst, ◌∙◌}
 use Rattle.d_desk.specs.Front.{IsFront, GainsFront}
 use Rattle.d_desk.specs.Scene.{Scene}
 use Rattle.d_desk.specs.Stages.{PrintsOnly, PrintsFront}
-use Rattle.d_desk.proofs.Fronts.{gains_none, gains_all}
-use Rattle.d_run.specs.Answer.{Answer, IsAnswer}
-use Rattle.d_run.specs.Runs.{IsCutShort}
+use Rattle.d_desk.proofs.Fronts.{gains_all}
+use Rattle.d_run.specs.Answer.{Answer, Written, IsAnswer}
+use Rattle.d_run.specs.Runs.{IsCutShort, files_after}
 use Rattle.d_run.specs.Replies.{IsPrepared, StopsOpening, IsGiven, PreparesOne}
 use Rattle.d_run.specs.declared.reply.Reply.{Reply}
 use Rattle.d_run.specs.declared.fault.Fault.{Fault}
@@ -22,7 +22,7 @@ gives_answer words x y z reply prepared prints = record {
   answered = record {
     printed = prints.printed ∙ (rw (prepared.opens.printed, prepared.text_is) refl);
     opened = prints.opened ∙ prepared.opens.opened;
-    files = prints.files ∙ prepared.opens.files;
+    files = prints.files ∙ prepared.opens.files ∙ ap (λ (written : List Written). files_after written x.files) (sym prepared.unwritten);
   };
 }
 
@@ -30,8 +30,7 @@ gives_answer words x y z reply prepared prints = record {
 pub cut_in_print : (words : List (List ℕ)) (x y z : Scene) (reply : Reply) → IsPrepared (IsAnswer words x.files) x y reply → PrintsFront reply.text.items y z
     → IsCutShort words x z
 cut_in_print words x y z reply prepared prints = record {
-  printed = λ answer is. let P : Answer → Type 0 = λ a. GainsFront x.printed z.printed a.text in
-      subst P (answer_same words x.files prepared.answer answer prepared.is is) printed;
+  printed = inr (record { answer = prepared.answer; is = prepared.is; front = printed });
   opened = λ answer is. let P : Answer → Type 0 = λ a. GainsFront x.opened z.opened a.openings in
       subst P (answer_same words x.files prepared.answer answer prepared.is is) (gains_all (prints.opened ∙ prepared.opens.opened));
   files = prints.files ∙ prepared.opens.files;
@@ -46,7 +45,7 @@ cut_in_print words x y z reply prepared prints = record {
 
 -- what stops before it is prepared is cut short
 pub cut_in_opening : (words : List (List ℕ)) (x y : Scene) → StopsOpening (IsAnswer words x.files) x y → IsCutShort words x y
-cut_in_opening words x y stops = record { printed = λ answer is. gains_none answer.text stops.printed; opened = stops.opened; files = stops.files }
+cut_in_opening words x y stops = record { printed = inl stops.printed; opened = stops.opened; files = stops.files }
 
 -- a run that prepares nothing is cut short
 pub cut_by_fault : (words : List (List ℕ)) (x y : Scene) (fault other : Fault) → fault ≡ other → PreparesOne (IsAnswer words x.files) x y (Err fault)

@@ -26,6 +26,7 @@ reply_prepared Is x reply r = record {
   verdict_is = r.verdict_is;
   text_is = r.text_is;
   opens = (let P : List Opening → Type 0 = λ openings. Opens openings x x in subst P (sym r.alone) (opens_none x));
+  unwritten = r.unwritten;
 }
 
 -- a run that stops with nothing more opened
@@ -83,6 +84,7 @@ module _ {V : Type 0} (name : List ℕ) (limit : ℕ) (too_long : Refusal) (Refu
     verdict_is = stage.1.verdict_is;
     text_is = stage.1.text_is;
     opens = (let P : List Opening → Type 0 = λ rest. Opens (opening In name ∷ rest) x y in subst P (sym stage.1.alone) stage.0);
+    unwritten = stage.1.unwritten;
   }
   stage_ends Has x y Failed stage = cut x y stage
     where
@@ -127,6 +129,7 @@ module _ {V : Type 0} (name : List ℕ) (limit : ℕ) (too_long : Refusal) (Refu
         verdict_is = p.verdict_is;
         text_is = p.text_is;
         opens = opens_then opens p.opens;
+        unwritten = p.unwritten;
       }
 
       stopped : StopsOpening (Next value) y z → StopsOpening (Reads x.files name limit too_long Refuses Means Next) x z
@@ -147,7 +150,7 @@ module _ {V : Type 0} (name : List ℕ) (limit : ℕ) (too_long : Refusal) (Refu
 
 -- a fault that ends by one answer ends by what that answer is
 pub ends_weaker : (P Q : Answer → Type 0) (fault : Fault) → ((end : Answer) → P end → Q end) → EndsBy P fault → EndsBy Q fault
-ends_weaker P Q (Refused reply) then r = record { answer = r.answer; is = then r.answer r.is; verdict_is = r.verdict_is; text_is = r.text_is; alone = r.alone }
+ends_weaker P Q (Refused reply) then r = record { answer = r.answer; is = then r.answer r.is; verdict_is = r.verdict_is; text_is = r.text_is; alone = r.alone; unwritten = r.unwritten }
 ends_weaker P Q Failed then r = r
 ends_weaker P Q Memory then r = r
 
@@ -173,7 +176,7 @@ pub prepares_as : (P Q : Answer → Type 0) (x y : Scene) (result : Result Reply
 prepares_as P Q x y result there back = by_result result
   where
     prepared : (reply : Reply) → IsPrepared P x y reply → IsPrepared Q x y reply
-    prepared reply p = record { answer = p.answer; is = there p.answer p.is; verdict_is = p.verdict_is; text_is = p.text_is; opens = p.opens }
+    prepared reply p = record { answer = p.answer; is = there p.answer p.is; verdict_is = p.verdict_is; text_is = p.text_is; opens = p.opens; unwritten = p.unwritten }
 
     stopped : StopsOpening P x y → StopsOpening Q x y
     stopped s = record { files = s.files; printed = s.printed; opened = λ answer is. s.opened answer (back answer is) }

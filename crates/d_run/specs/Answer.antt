@@ -34,19 +34,25 @@ use Rattle.d_run.specs.declared.verdict.Verdict.TheVariants as verdict
 use Rattle.d_run.specs.declared.fault.Refusal.{Refusal}
 use Rattle.d_run.specs.declared.fault.Refusal.TheVariants.{Words, LongRecord, RecordShape, LongReadings, Readings, GroupsNotYet, TiersNotYet, LongBattery, Battery, LongSchedule, Schedule}
 
--- a verdict, the text that is printed, and the files that are opened, in order
+-- a file that is written: its name, and its bytes once it is closed
+pub record Written : Type 0 where
+  pub name : List ℕ
+  pub bytes : List ℕ
+
+-- a verdict, the text that is printed, the files that are opened, in order, and those that are written, in the order in which they are closed
 pub record Answer : Type 0 where
   pub verdict : Verdict
   pub text : List ℕ
   pub openings : List Opening
+  pub written : List Written
 
--- an answer that opens nothing
+-- an answer that opens nothing and writes nothing
 abbrev pub says : Verdict → List ℕ → Answer
-says v text = record { verdict = v; text = text; openings = [] }
+says v text = record { verdict = v; text = text; openings = []; written = [] }
 
 -- an answer after this file was opened for reading
 abbrev pub after_opening : List ℕ → Answer → Answer
-after_opening name answer = record { verdict = answer.verdict; text = answer.text; openings = opening In name ∷ answer.openings }
+after_opening name answer = record answer { openings = opening In name ∷ answer.openings }
 
 -- the verdict of a refusal
 abbrev pub refusal_verdict : Refusal → Verdict

@@ -26,13 +26,14 @@ use Rattle.d_run.specs.declared.fault.Fault.{Fault}
 use Rattle.d_run.specs.declared.fault.Fault.TheVariants as fault
 use Rattle.d_run.specs.declared.verdict.Verdict.{Verdict}
 
--- a reply is such an answer, which opens nothing more
+-- a reply is such an answer, which opens nothing more and writes nothing
 pub record IsReply (Is : Answer → Type 0) (reply : Reply) : Type 0 where
   pub answer : Answer
   pub is : Is answer
   pub verdict_is : reply.verdict ≡ answer.verdict
   pub text_is : reply.text.items ≡ answer.text
   pub alone : answer.openings ≡ []
+  pub unwritten : answer.written ≡ []
 
 -- a reply has this verdict and this text
 abbrev pub Shows : Verdict → List ℕ → Reply → Type 0
@@ -125,13 +126,14 @@ BatteryStage name = FileStage {T = Battery} name longest_file LongBattery (λ ro
 abbrev pub ScheduleStage : List ℕ → Inputs → Scene → Scene → Result (Vec ℕ Global) Fault → Type 0
 ScheduleStage name i = FileStage {T = Vec ℕ Global} name longest_file LongSchedule (λ rows modes. MeansSchedule i rows modes.items) (RefusesSchedule i)
 
--- an answer is prepared: its files are opened, and its verdict and text are known
+-- an answer is prepared: its files are opened, its verdict and text are known, and it writes nothing
 pub record IsPrepared (Is : Answer → Type 0) (before now : Scene) (reply : Reply) : Type 0 where
   pub answer : Answer
   pub is : Is answer
   pub verdict_is : reply.verdict ≡ answer.verdict
   pub text_is : reply.text.items ≡ answer.text
   pub opens : Opens answer.openings before now
+  pub unwritten : answer.written ≡ []
 
 -- nothing is printed yet, and of whatever the answer is a front of its files was opened
 pub record StopsOpening (Is : Answer → Type 0) (before now : Scene) : Type 0 where

@@ -1,8 +1,9 @@
 -- How a run of the program may end.
-use Rattle.std.specs.Prelude.{◌≡◌, ℕ, List, ◌++◌}
+use Rattle.std.specs.Prelude.{◌≡◌, ◌⊎◌, ℕ, List, [], ◌∷◌, ◌++◌, Some, bytes_eq}
+use Rattle.std.specs.Map.{update}
 use Rattle.d_desk.specs.Front.{GainsFront}
-use Rattle.d_desk.specs.Scene.{Scene}
-use Rattle.d_run.specs.Answer.{Answer, IsAnswer}
+use Rattle.d_desk.specs.Scene.{Files, Scene}
+use Rattle.d_run.specs.Answer.{Answer, Written, IsAnswer}
 use Rattle.d_run.specs.declared.verdict.Verdict.{Verdict}
 use Rattle.d_run.specs.declared.verdict.Verdict.TheVariants as verdict
 use Rattle.d_run.specs.declared.verdict.Status.{Status}
@@ -30,15 +31,28 @@ status_number status.Refused = 7
 status_number status.Desk = 8
 status_number status.Memory = 9
 
--- the run was answered: its text is printed whole, its files were opened in their order, and the files are as before
+-- the files once these were written over them, one after the other
+abbrev pub files_after : List Written → Files → Files
+files_after [] files = files
+files_after (written ∷ rest) files = files_after rest (update bytes_eq files written.name (Some written.bytes))
+
+-- the run was answered: its text is printed whole, its files were opened in their order, and the files are as before but for those that it
+-- wrote
 pub record IsAnswered (answer : Answer) (before now : Scene) : Type 0 where
   pub printed : now.printed ≡ before.printed ++ answer.text
   pub opened : now.opened ≡ before.opened ++ answer.openings
-  pub files : now.files ≡ before.files
+  pub files : now.files ≡ files_after answer.written before.files
 
--- the run was cut short: of whatever its answer is, a front is printed and a front of the files was opened, and the files are as before
+-- a front of the text of an answer is printed
+pub record PrintsFrontOf (words : List (List ℕ)) (before now : Scene) : Type 0 where
+  pub answer : Answer
+  pub is : IsAnswer words before.files answer
+  pub front : GainsFront before.printed now.printed answer.text
+
+-- the run was cut short: nothing is printed, or a front of an answer's text; of whatever its answer is, a front of the files was opened; and
+-- the files are as before
 pub record IsCutShort (words : List (List ℕ)) (before now : Scene) : Type 0 where
-  pub printed : (answer : Answer) → IsAnswer words before.files answer → GainsFront before.printed now.printed answer.text
+  pub printed : (now.printed ≡ before.printed) ⊎ PrintsFrontOf words before now
   pub opened : (answer : Answer) → IsAnswer words before.files answer → GainsFront before.opened now.opened answer.openings
   pub files : now.files ≡ before.files
 

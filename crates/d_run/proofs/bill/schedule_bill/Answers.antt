@@ -15,6 +15,7 @@ returns-in-Ok c =
       verdict_is = says_bill.0;
       text_is = says_bill.1 ∙ ap (bill_text c.args.problem.now c.args.label.now) c.in-Ok.ensures.tally;
       alone = refl;
+      unwritten = refl;
     }) c.bill_reply.ensures
 
 pub returns-in-Err : goal.returns-in-Err
@@ -25,4 +26,5 @@ returns-in-Err c =
       verdict_is = says_break.0;
       text_is = says_break.1;
       alone = refl;
+      unwritten = refl;
     }) c.break_reply.ensures

@@ -26,6 +26,7 @@ returns-in-Some c =
       verdict_is = shows.0;
       text_is = shows.1 ∙ ap (λ (s : List ℕ). plan_text i c.args.label.now s) c.as_slice.ensures.value;
       alone = refl;
+      unwritten = refl;
     }) c.plan_reply.ensures
 
 pub returns-in-None : goal.returns-in-None
@@ -40,4 +41,5 @@ returns-in-None c =
       verdict_is = shows.0;
       text_is = shows.1;
       alone = refl;
+      unwritten = refl;
     }) c.no_plan_reply.ensures
