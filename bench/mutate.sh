@@ -1,7 +1,7 @@
 #!/bin/sh
-# Plans ten thousand records that were changed at random: bytes flipped, cells swapped, columns doubled. Each has to end in a plan, in a
-# refusal of the record by its number and name, or in that no schedule is feasible: statuses 0, 2 and 5. It needs the built program and isn't
-# part of the gate. COUNT and SEED may be given as words.
+# Plans or bills ten thousand records that were changed at random: bytes flipped, cells swapped, columns doubled. Each has to end in a plan
+# or a bill, in a refusal of the record by its number and name, or in that no schedule is feasible: statuses 0, 2 and 5, and a bill only in the
+# first two and never in `NotYet`. It needs the built program and isn't part of the gate. COUNT and SEED may be given as words.
 . "$(dirname -- "$0")/lib.sh"
 built
 python3 - "$top" "$work" "${1:-10000}" "${2:-1}" <<'PY'
@@ -60,16 +60,20 @@ for turn in range(count):
     with open(work + "/tariff.csv", "wb") as file:
         file.write(text)
     first = top + "/examples/first/"
-    done = subprocess.run([top + "/crates/dispatch/out/dispatch", "plan", "--records", work + "/tariff.csv", "--label", label, "--readings",
-                           first + "readings.csv", "--battery", first + "battery.csv"], stdout=subprocess.PIPE, stderr=subprocess.PIPE, check=False)
-    seen[done.returncode] += 1
-    sound = done.returncode in (0, 5) or done.returncode == 2 and LINE.fullmatch(done.stdout)
+    command = chance.choice(["plan", "bill"])
+    last = ["--battery", first + "battery.csv"] if command == "plan" else ["--prior-peak", "5000"]
+    done = subprocess.run([top + "/crates/dispatch/out/dispatch", command, "--records", work + "/tariff.csv", "--label", label, "--readings",
+                           first + "readings.csv"] + last, stdout=subprocess.PIPE, stderr=subprocess.PIPE, check=False)
+    seen[command, done.returncode] += 1
+    sound = done.returncode == 0 and done.stdout.startswith(b"dispatch %s\n" % command.encode())
+    sound = sound or done.returncode == 5 and command == "plan" or done.returncode == 2 and LINE.fullmatch(done.stdout)
+    sound = sound and not (command == "bill" and b" 23 NotYet " in done.stdout)
     if not sound or done.stderr:
         print("turn %d of seed %d: status %d %r %r" % (turn, seed, done.returncode, done.stdout[:200], done.stderr[:200]))
         open("mutated.csv", "wb").write(text)
         sys.exit(1)
     if done.returncode == 2:
         names[done.stdout.split()[3].decode() if done.stdout.split()[2] != b"0" else "0"] += 1
-print("statuses", dict(sorted(seen.items())))
+print("statuses", {"%s %d" % end: times for end, times in sorted(seen.items())})
 print("refusals", dict(names.most_common()))
 PY

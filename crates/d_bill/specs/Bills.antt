@@ -16,6 +16,7 @@ abbrev pub charge_in : Option Period → ℤ → ℤ
 charge_in None total = pos 0
 charge_in (Some period) total = tier_charge period.tiers total
 
+-- the tier charge of a period in a tally: what its import of the month comes to by its marginal tiers
 abbrev pub period_charge : Inputs → Tallied → ℕ → ℤ
 period_charge i tally number = charge_in (period_at i.energy number) (slice_index_or tally.totals number (pos 0))
 
@@ -24,6 +25,7 @@ abbrev pub demand_charge : Option Peak → ℤ → ℤ
 demand_charge None power = pos 0
 demand_charge (Some peak) power = peak_charge peak power
 
+-- what a group charges in a tally: its highest demand, or its floor where that is greater, by its marginal tiers
 abbrev pub group_charge : Inputs → Tallied → ℕ → ℤ
 group_charge i tally group = demand_charge (slice_get i.peaks group) (slice_index_or tally.peaks group (pos 0))
 

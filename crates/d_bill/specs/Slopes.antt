@@ -22,6 +22,7 @@ abbrev pub is_tiered : Option Period → Bool
 is_tiered None = false
 is_tiered (Some period) = nat_lt 1 (length period.tiers)
 
+-- whether the period of that number is tiered
 abbrev pub tiered_at : Inputs → ℕ → Bool
 tiered_at i number = is_tiered (period_at i.energy number)
 

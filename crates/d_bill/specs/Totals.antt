@@ -28,10 +28,11 @@ peak_to i flow n group = greatest_of_first n (λ t. if is_in_group i t group the
 unfoldable pub values_of : ℕ → (ℕ → ℤ) → List ℤ
 values_of n f = map f (range_with_len 0 n)
 
--- all of it, over the first n intervals and over the month
+-- all of it, over the first n intervals
 abbrev pub tally_to : Inputs → (ℕ → ℤ) → ℕ → Tallied
 tally_to i flow n = record { totals = values_of 36 (import_to i flow n); credit = credit_to i flow n; peaks = values_of 37 (peak_to i flow n) }
 
+-- all of it, over the month
 abbrev pub tally_by : Inputs → (ℕ → ℤ) → Tallied
 tally_by i flow = tally_to i flow (length i.net)
 
