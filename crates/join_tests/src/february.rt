@@ -1,11 +1,12 @@
-//! February 2025, whose first day is a Saturday: its readings, the battery of no use, and the bill of the readings.
+//! February 2025, whose first day is a Saturday: its readings, the battery, and the bill of the readings.
 
 ghost use Rattle.std.specs.Prelude.{◌≡◌, ◌^◌, IfOk};
 ghost use Rattle.d_num.specs.Amount.{IsWithin};
 
 use d_bill::{Problem, Tally};
+use d_cal::Month;
 use d_list::Items;
-use d_model::{Battery, Meter, Mode, Month, Name};
+use d_model::{Battery, Meter, Mode, Name};
 use d_num::{Money, NoMemory, Watt, Wh};
 use d_table::read_table;
 use d_tariff::Tariff;
@@ -14,7 +15,7 @@ use std::alloc::Global;
 use std::test::Fail;
 
 /// A month of hourly readings, by the hour of the month.
-pub fn february(alloc: Global, reading: Reading) -> Result<Meter, NoMemory>
+fn february(alloc: Global, reading: Reading) -> Result<Meter, NoMemory>
     ensures { IfOk result (λ m. m.minutes ≡ 60) }
 {
     let mut net = Items::new(alloc);
@@ -58,25 +59,37 @@ impl Reading {
     }
 }
 
-/// A battery that can do nothing.
+/// A battery at level 1 of 4, which rests in mode 0, and in mode 1 goes down a level and sends 3000 Wh.
 fn battery(alloc: Global) -> Result<Battery, NoMemory> {
     let mut modes = Items::new(alloc);
-    modes.add(Mode {
-        name: Name::new(b"idle").unwrap(),
-        change: 0,
-        grid: Wh::new(0).unwrap(),
-        low: 0,
-        high: 255,
-    })?;
+    modes.add(mode(Name::new(b"idle").unwrap(), 0, Wh::new(0).unwrap()))?;
+    modes.add(mode(
+        Name::new(b"discharge").unwrap(),
+        -1,
+        Wh::new(-3000).unwrap(),
+    ))?;
     Ok(Battery {
-        capacity: 0,
+        capacity: 4,
         floor: 0,
-        start: 0,
+        start: 1,
         end: 0,
         max_import: Wh::new(10_000_000_000).unwrap(),
         max_export: Wh::new(10_000_000_000).unwrap(),
         modes,
     })
+}
+
+/// A mode that may begin at any level.
+fn mode(name: Name, change: i16, grid: Wh) -> Mode
+    ensures { result ≡ record { name = name; change = change; grid = grid; low = 0; high = 255 } }
+{
+    Mode {
+        name,
+        change,
+        grid,
+        low: 0,
+        high: 255,
+    }
 }
 
 /// The bill of the readings by the record of that label in the text.
@@ -87,13 +100,25 @@ pub fn bill(
     reading: Reading,
     prior: Watt,
 ) -> Result<Money, Fail> {
+    let problem = problem(alloc, text, label, reading, prior)?;
+    let mut tally = Tally::new();
+    problem.metered(&mut tally);
+    Ok(problem.bill(&tally))
+}
+
+/// The problem of the readings, the battery and the record of that label.
+pub fn problem(
+    alloc: Global,
+    text: &str,
+    label: &str,
+    reading: Reading,
+    prior: Watt,
+) -> Result<Problem, Fail> {
     let tariff = tariff(alloc, text, label)?;
     let meter = february(alloc, reading)?;
     let battery = battery(alloc)?;
     let problem = Problem::join(alloc, &tariff, &meter, &battery, prior)?;
-    let mut tally = Tally::new();
-    problem.metered(&mut tally);
-    Ok(problem.bill(&tally))
+    Ok(problem)
 }
 
 /// The tariff of the record of that label.

@@ -1,5 +1,5 @@
 //! Tests of the problem that a record's tariff, readings and a battery are joined to, over public calls alone: the bills of months that were
-//! worked by hand.
+//! worked by hand, and schedules.
 #![tactic(auto)]
 
 #[cfg(test)]
@@ -8,3 +8,5 @@ mod february;
 mod office;
 #[cfg(test)]
 mod rows;
+#[cfg(test)]
+mod schedules;
