@@ -14,7 +14,10 @@ use Rattle.d_model.specs.declared.battery.Battery.{Battery}
 use Rattle.d_tariff.specs.Shown.{terms_of}
 use Rattle.d_tariff.specs.declared.tariff.Tariff.{Tariff}
 use Rattle.d_urdb.specs.declared.rule.RuleChoice.{RuleChoice}
+use Rattle.d_table.specs.Table.{kept_rows}
+use Rattle.d_urdb.specs.Record.{label_name}
 use Rattle.d_run.specs.Record.{IsRecord}
+use Rattle.d_run.specs.declared.record.Recorded.{Recorded}
 use Rattle.d_run.specs.ReadingsFile.{Hourly, IsHourly}
 use Rattle.d_run.specs.BatteryFile.{IsBatteryFile}
 use Rattle.d_run.specs.Answer.{Answer, IsAnswer, longest_record, longest_file, joined, refused, rows_in, RefusesRecord, RefusesReadings, RefusesBattery, RefusesSchedule, MeansSchedule}
@@ -50,10 +53,14 @@ abbrev pub Gives : {T : Type 0} → (T → Type 0) → (Answer → Type 0) → R
 Gives Has Ends (Ok value) = Has value
 Gives Has Ends (Err f) = EndsBy Ends f
 
--- the tariff of the record of this label, or the refusal
-abbrev pub GivesTariff : List (List (List ℕ)) → List ℕ → RuleChoice → Result Tariff Fault → Type 0
-GivesTariff rows label rule result =
-    Gives {T = Tariff} (λ tariff. IsRecord rows label rule (terms_of tariff)) (RefusesRecord rows label rule) result
+-- the record of this label: the rows that are kept of it, and its terms
+pub record IsRecorded (rows : List (List (List ℕ))) (label : List ℕ) (rule : RuleChoice) (recorded : Recorded) : Type 0 where
+  pub table : recorded.table ≡ kept_rows label_name label rows
+  pub terms : IsRecord rows label rule (terms_of recorded.tariff)
+
+-- the record of this label, or the refusal
+abbrev pub GivesRecord : List (List (List ℕ)) → List ℕ → RuleChoice → Result Recorded Fault → Type 0
+GivesRecord rows label rule result = Gives {T = Recorded} (IsRecorded rows label rule) (RefusesRecord rows label rule) result
 
 -- the modes of a schedule, or the refusal
 abbrev pub GivesSchedule : Inputs → List (List (List ℕ)) → Result (Vec ℕ Global) Fault → Type 0
@@ -105,10 +112,10 @@ FileStage name limit too_long Means Refuses before now result =
     IsStage name (HasValue before.files name limit (Means (rows_in before.files name)))
     (EndsAt before.files name limit too_long (Refuses (rows_in before.files name))) before now result
 
--- the record file gives a tariff or a refusal
-abbrev pub RecordStage : List ℕ → List ℕ → RuleChoice → Scene → Scene → Result Tariff Fault → Type 0
-RecordStage name label rule = FileStage {T = Tariff} name longest_record LongRecord
-    (λ rows tariff. IsRecord rows label rule (terms_of tariff)) (λ rows. RefusesRecord rows label rule)
+-- the record file gives a record or a refusal
+abbrev pub RecordStage : List ℕ → List ℕ → RuleChoice → Scene → Scene → Result Recorded Fault → Type 0
+RecordStage name label rule = FileStage {T = Recorded} name longest_record LongRecord
+    (λ rows recorded. IsRecorded rows label rule recorded) (λ rows. RefusesRecord rows label rule)
 
 -- an hourly month of these rows
 abbrev pub IsMeterOf : List (List (List ℕ)) → Meter → Type 0

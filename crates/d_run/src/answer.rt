@@ -14,7 +14,7 @@ use crate::fault::{Fault, ReadFault, Refusal};
 use crate::month::{check_plannable, join_month};
 use crate::plan::plan;
 use crate::readings::read_readings;
-use crate::record::read_record;
+use crate::record::{Recorded, read_record};
 use crate::reply::Reply;
 use crate::schedule::read_modes;
 use crate::verdict::{Status, Verdict};
@@ -98,8 +98,8 @@ fn answer_request<D: Desk>(
     ensures cause { IsCaused (D.faults desk.old) (D.faults desk.new) result }
 {
     let rule = rule_of(request.net_billing);
-    let tariff = load_record(alloc, desk, request.records, request.label, rule)?;
-    answer_with_tariff(alloc, desk, request, &tariff)
+    let recorded = load_record(alloc, desk, request.records, request.label, rule)?;
+    answer_with_tariff(alloc, desk, request, &recorded.tariff)
 }
 
 /// The rule of billing: net billing where it is chosen, else the record's own.
@@ -222,14 +222,14 @@ fn bill_of_problem<D: Desk>(
     Ok(schedule_bill(alloc, label, problem, modes.as_slice())?)
 }
 
-/// The tariff of the record of this label in the file.
+/// The record of this label in the file.
 fn load_record<D: Desk>(
     alloc: Global,
     desk: &mut D,
     name: &str,
     label: &str,
     rule: RuleChoice,
-) -> Result<Tariff, Fault>
+) -> Result<Recorded, Fault>
     ensures told { D.tells → RecordStage name.now label.now rule (D.scene desk.old) (D.scene desk.new) result }
     ensures cause { IsCaused (D.faults desk.old) (D.faults desk.new) result }
 {

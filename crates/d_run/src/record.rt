@@ -4,7 +4,7 @@ ghost use Rattle.std.specs.Prelude.{◌≡◌};
 ghost use Rattle.d_table.specs.Table.{rows_of};
 ghost use Rattle.d_run.specs.RecordText.{record_text};
 ghost use Rattle.d_run.specs.Answer.{says};
-ghost use Rattle.d_run.specs.Replies.{EndsBy, GivesTariff};
+ghost use Rattle.d_run.specs.Replies.{EndsBy, GivesRecord};
 ghost use Rattle.d_run.specs.declared.verdict.Verdict.TheVariants.{Record};
 
 use crate::fault::{Fault, Refusal};
@@ -17,15 +17,24 @@ use d_tariff::Tariff;
 use d_urdb::{RecordFault, Refused, RuleChoice};
 use std::alloc::Global;
 
-/// The tariff of the record of this label in the file. It is refused by the first row of another length than the header, or by the
-/// first refusal of the record itself; the line names the column at fault, where there is one, and shows its cell.
+/// A record of a file and what it says.
+#[derive(Drop)]
+pub struct Recorded {
+    /// The header and the first two rows with the record's label, from which names and cells are shown.
+    pub table: Table,
+    /// The record's tariff.
+    pub tariff: Tariff,
+}
+
+/// The record of this label in the file. It is refused by the first row of another length than the header, or by the first refusal of the
+/// record itself; the line names the column at fault, where there is one, and shows its cell.
 pub fn read_record(
     alloc: Global,
     bytes: &[u8],
     label: &str,
     rule: RuleChoice,
-) -> Result<Tariff, Fault>
-    ensures { GivesTariff (rows_of bytes.now) label.now rule result }
+) -> Result<Recorded, Fault>
+    ensures { GivesRecord (rows_of bytes.now) label.now rule result }
 {
     let label = label.as_bytes();
     let table = match read_where(alloc, bytes, b"label", label) {
@@ -34,7 +43,7 @@ pub fn read_record(
         Err(TableFault::Memory) => return Err(Fault::Memory),
     };
     match d_urdb::read_record(alloc, &table, label, rule) {
-        Ok(tariff) => Ok(tariff),
+        Ok(tariff) => Ok(Recorded { table, tariff }),
         Err(RecordFault::Refused(refused)) => Err(record_fault(alloc, &table, refused)),
         Err(RecordFault::Memory) => Err(Fault::Memory),
     }
