@@ -3,7 +3,7 @@
 ghost use Rattle.std.specs.Prelude.{◌≡◌, ◌<◌, pos, slice_index_or};
 
 use crate::problem::Problem;
-use crate::tally::Tally;
+use crate::tally::{PERIODS, Tally};
 use d_num::{Money, Watt, Wh};
 
 impl Problem {
@@ -49,7 +49,7 @@ impl Problem {
         ensures small { (number : ℕ) → number < 36 → IsWithin (total_limit tally.now number) (period_charge self.now tally.now number) }
     {
         let mut sum = Money::new(0).unwrap();
-        for period in 0..36u8 {
+        for period in 0..PERIODS {
             sum = sum.plus(self.period_charge(tally, period));
         }
         sum

@@ -10,6 +10,7 @@ ghost use Rattle.d_bill.specs.Inputs.{HasPrices, HasPeakPrices};
 ghost use Rattle.d_bill.specs.Join as spec;
 
 use crate::problem::Problem;
+use crate::tally::PERIODS;
 use d_cal::{Month, Schedule};
 use d_list::Items;
 use d_model::{Battery, Meter};
@@ -17,8 +18,6 @@ use d_num::{NoMemory, Watt};
 use d_tariff::{Period, Periods, Tariff};
 use d_tier::{Peak, Tiers};
 use std::alloc::Global;
-
-const PERIODS: u8 = 36;
 
 const MINUTES_OF_A_DAY: u32 = 1440;
 

@@ -18,4 +18,4 @@ pub use arc::{Arc, At, Interval};
 pub use law::{joins_in_range, least_by_energy, parts_by_slopes, parts_sum, reads_once};
 pub use problem::Problem;
 pub use schedule::{ScheduleFault, read_schedule};
-pub use tally::Tally;
+pub use tally::{PERIODS, Tally};

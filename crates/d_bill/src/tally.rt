@@ -5,6 +5,9 @@ ghost use Rattle.std.specs.Prelude.{◌≡◌, pos, replicate};
 use d_num::{Money, Watt, Wh};
 use std::marker::Model;
 
+/// How many energy periods there can be: those of the numbers 0 to 35.
+pub const PERIODS: u8 = 36;
+
 /// The import of each energy period of the month, the worth of its export, and the greatest power of each group of intervals. A
 /// contract sees it as these lists.
 #[derive(Drop)]

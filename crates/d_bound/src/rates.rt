@@ -3,11 +3,9 @@
 ghost use Rattle.std.specs.Prelude.{◌≡◌, [], ◌<◌, IfOk, length};
 ghost use Rattle.d_bill.specs.Slopes.{slope_rate, rates_of};
 
-use d_bill::Problem;
+use d_bill::{PERIODS, Problem};
 use d_num::{NoMemory, Rate};
 use std::alloc::Global;
-
-const PERIODS: u8 = 36;
 
 /// The rate of each energy period, from 0 to 35: its price where it has one, and 0 where it has several or doesn't occur.
 pub(crate) fn prices_of(alloc: Global, problem: &Problem) -> Result<Vec<Rate>, NoMemory>

@@ -6,11 +6,9 @@ ghost use Rattle.d_bill.specs.Totals.{IsTallied};
 ghost use Rattle.d_report.specs.Charges as spec;
 
 use crate::lines::{put_line, put_money, put_number, put_title};
-use d_bill::{Problem, Tally};
+use d_bill::{PERIODS, Problem, Tally};
 use d_num::{Money, NoMemory, Watt, Wh};
 use std::alloc::Global;
-
-const PERIODS: u8 = 36;
 
 /// The text of the bill of a tally that `walk` or `metered` of this problem wrote: what is answered, the bill, and what it is made of.
 pub fn bill_text(
