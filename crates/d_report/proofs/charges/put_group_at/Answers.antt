@@ -17,8 +17,8 @@ returns c =
     let peak = peak_is i inside tally group c.index-tally-group.result c.groups.ensures.range c.requires.group c.tally.invariant.1 c.tally.view_is in
     let floor = floor_is i c.groups.result.now group c.index-groups-group.result c.groups.ensures.value c.requires.group in
     let front = c.in_ok-put_front.ensures
-        ∙ ap (λ (list : List ℕ). c.args.text.now.items ++ list)
-        (ap₂ (λ (p f : ℤ). group_front c.group_period.result p f) peak floor ∙ ap (λ number. group_front number (slice_index_or tally.peaks group (pos 0)) (floor_at i group)) c.group_period.ensures) in
+    ∙ ap (λ (list : List ℕ). c.args.text.now.items ++ list)
+    (ap₂ (λ (p f : ℤ). group_front c.group_period.result p f) peak floor ∙ ap (λ number. group_front number (slice_index_or tally.peaks group (pos 0)) (floor_at i group)) c.group_period.ensures) in
     on_ok_weaker c.put_money.result
     (λ put. two_parts c.args.text.now.items c.put_front.new.text.items c.put_money.new.text.items
     (group_front (slice_get i.demand_groups group) (slice_index_or tally.peaks group (pos 0)) (floor_at i group)) (money_line (codes " charge ") (group_charge i tally group))
