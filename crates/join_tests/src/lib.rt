@@ -1,11 +1,13 @@
 //! Tests of the problem that a record's tariff, readings and a battery are joined to, over public calls alone: the bills of months that were
-//! worked by hand, and schedules.
+//! worked by hand, one of them printed, and schedules.
 #![tactic(auto)]
 
 #[cfg(test)]
 mod february;
 #[cfg(test)]
 mod office;
+#[cfg(test)]
+mod printed;
 #[cfg(test)]
 mod rows;
 #[cfg(test)]
