@@ -38,12 +38,15 @@ pub fn answer(alloc: Global, line: &str, desk: &mut MemoryDesk) -> Result<String
     let words = words(alloc, line)?;
     let status = run(alloc, words.as_slice(), desk).number();
     let printed = str::from_utf8(desk.printed_bytes())?;
-    let mut told = printed.lines().last().unwrap_or("");
-    for shown in printed.lines() {
-        if line.starts_with("bill ") && shown.starts_with("bill ") {
-            told = shown;
-        }
-    }
+    let last = printed.lines().last().unwrap_or("");
+    let told = if line.starts_with("bill ") {
+        printed
+            .lines()
+            .find(|shown| shown.starts_with("bill "))
+            .unwrap_or(last)
+    } else {
+        last
+    };
     Ok(format!(in alloc; "{status} {told}")?)
 }
 
