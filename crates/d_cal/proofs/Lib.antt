@@ -1,1 +1,4 @@
 mod WeekdayFacts
+mod Moments
+mod Digits
+mod StartParts

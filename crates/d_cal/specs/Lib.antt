@@ -1,2 +1,4 @@
 pub mod Calendar
 pub mod Schedules
+pub mod Starts
+pub mod StartCells
