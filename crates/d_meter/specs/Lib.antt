@@ -1,0 +1,5 @@
+pub mod Meters
+pub mod Shown
+pub mod Readings
+pub mod Checks
+pub mod Law
