@@ -32,9 +32,9 @@ start_once cell start other one two =
     let minute = pair_once cell 14 _ _ p.minute q.minute in
     let size : unsigned_abs start.year ≡ unsigned_abs other.year = omega (arith, front, back) in
     let year : start.year ≡ other.year =
-        sym (year_of_size start.year start.month one.in_calendar.month) ∙ ap pos size ∙ year_of_size other.year other.month two.in_calendar.month in
+    sym (year_of_size start.year start.month one.in_calendar.month) ∙ ap pos size ∙ year_of_size other.year other.month two.in_calendar.month in
     same start.year other.year start.month other.month start.day other.day start.minute other.minute year (pair_once cell 5 _ _ p.month q.month)
-        (pair_once cell 8 _ _ p.day q.day) (omega (arith, hour, minute))
+    (pair_once cell 8 _ _ p.day q.day) (omega (arith, hour, minute))
   where
     made : ℤ → ℕ → ℕ → ℕ → Start
     made y m d t = record { year = y; month = m; day = d; minute = t }

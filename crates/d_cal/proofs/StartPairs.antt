@@ -57,8 +57,13 @@ has_bytes start between seconds is =
     let y = unsigned_abs start.year in
     let size = sizes start is in
     rw (
-      four_digits y size.year, two_digits (y / 100) (omega (arith, size.year)), two_digits (y % 100) (omega arith), two_digits start.month size.month,
-      two_digits start.day size.day, two_digits (start.minute / 60) (omega (arith, is.minute)), two_digits (start.minute % 60) (omega arith)
+      four_digits y size.year,
+      two_digits (y / 100) (omega (arith, size.year)),
+      two_digits (y % 100) (omega arith),
+      two_digits start.month size.month,
+      two_digits start.day size.day,
+      two_digits (start.minute / 60) (omega (arith, is.minute)),
+      two_digits (start.minute % 60) (omega arith),
     ) refl
 
 -- where they stand in a cell

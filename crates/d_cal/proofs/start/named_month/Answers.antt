@@ -28,5 +28,5 @@ returns c = λ start is.
     let number = some_once _ _ (c.in_ok-number.ensures.found start.month size.month p.month) in
     let size_is : c.in_ok-front.front * 100 + c.in_ok-back.back ≡ unsigned_abs start.year = omega (arith, front, back) in
     let year = to_z_pos w16 (c.in_ok-front.front * 100 + c.in_ok-back.back) (omega (arith, size_is, size.year)) ∙ ap pos size_is
-        ∙ year_of_size start.year start.month is.in_calendar.month in
+    ∙ year_of_size start.year start.month is.in_calendar.month in
     month_found start c.new.result _ _ is.in_calendar.month year number c.new.ensures.range c.new.ensures.year c.new.ensures.number

@@ -9,4 +9,4 @@ returns c =
     let date = date_text start.year start.month start.day in
     let time = time_text start.minute in
     let bytes = ap (λ (t : List ℕ). date ++ 84 ∷ t) (sym (append-nil time)) ∙ has_bytes start 84 [] c.requires in
-    rw (c.unsigned_abs.ensures, c.unsigned_abs-2.ensures, c.two_digits.ensures, c.two_digits-2.ensures, c.two_digits-3.ensures, c.two_digits-4.ensures, c.two_digits-5.ensures, c.two_digits-6.ensures) (sym bytes)
+    rw (c.two_digits.ensures, c.two_digits-2.ensures, c.two_digits-3.ensures, c.two_digits-4.ensures, c.two_digits-5.ensures, c.two_digits-6.ensures, c.unsigned_abs.ensures, c.unsigned_abs-2.ensures) (sym bytes)
