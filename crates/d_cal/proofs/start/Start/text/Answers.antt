@@ -1,4 +1,4 @@
-use Rattle.std.proofs.Common.{◌≡◌, ◌++◌, ◌∷◌, [], List, ℕ, append-nil, ◌∙◌, ap, refl, sym}
+use Rattle.std.proofs.Common.{◌≡◌, ◌+◌, ◌/◌, ◌%◌, ◌++◌, ◌∷◌, [], List, ℕ, append-nil, ◌∙◌, ap, refl, sym}
 use Rattle.d_cal.specs.Starts.{time_text, date_text}
 use Rattle.d_cal.proofs.StartPairs.{has_bytes}
 use Rattle.d_cal.proofs.start.Start.text.Goals as goal
@@ -9,4 +9,6 @@ returns c =
     let date = date_text start.year start.month start.day in
     let time = time_text start.minute in
     let bytes = ap (λ (t : List ℕ). date ++ 84 ∷ t) (sym (append-nil time)) ∙ has_bytes start 84 [] c.requires in
-    rw (c.two_digits.ensures, c.two_digits-2.ensures, c.two_digits-3.ensures, c.two_digits-4.ensures, c.two_digits-5.ensures, c.two_digits-6.ensures, c.unsigned_abs.ensures, c.unsigned_abs-2.ensures) (sym bytes)
+    let front = c.two_digits.ensures ∙ ap (λ (y : ℕ). (48 + y / 100 / 10) ∷ (48 + y / 100 % 10) ∷ []) c.unsigned_abs.ensures in
+    let back = c.two_digits-2.ensures ∙ ap (λ (y : ℕ). (48 + y % 100 / 10) ∷ (48 + y % 100 % 10) ∷ []) c.unsigned_abs-2.ensures in
+    rw (front, back, c.two_digits-3.ensures, c.two_digits-4.ensures, c.two_digits-5.ensures, c.two_digits-6.ensures) (sym bytes)
