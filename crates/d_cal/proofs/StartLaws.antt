@@ -1,5 +1,5 @@
 -- A cell is one start at most.
-use Rattle.std.proofs.Common.{◌≡◌, ◌↔◌, true, false, IsSome, IfSome, MatchOption, Option, None, Some, ℕ, ◌+◌, ◌*◌, ◌/◌, ◌%◌, ◌<◌, ℤ, pos, negsuc, unsigned_abs, List, [], ◌∷◌, refl, sym, ap, ◌∙◌, arith}
+use Rattle.std.proofs.Common.{◌≡◌, ◌↔◌, true, false, IsSome, IfSome, MatchOption, Option, None, Some, ℕ, ◌+◌, ◌/◌, ◌%◌, ℤ, pos, negsuc, unsigned_abs, List, [], ◌∷◌, refl, sym, ap, ◌∙◌, arith}
 use Rattle.std.proofs.lemmas.Int.{ints}
 use Rattle.d_cal.specs.declared.start.Start.{Start}
 use Rattle.d_cal.specs.Calendar.{IsMonth}

@@ -1,9 +1,7 @@
 -- The numbers of a start, two digits at each of their places.
-use Rattle.std.proofs.Common.{◌≡◌, ◌≢◌, inl, inr, ℕ, zero, suc, ◌+◌, ◌*◌, ◌/◌, ◌%◌, ◌<◌, ◌≤◌, ℤ, pos, ◌≤ℤ◌, unsigned_abs, List, [], ◌∷◌, ◌++◌, length, slice_index_or, take, drop, Option, None, Some, refl, sym, ap, ap₂, ◌∙◌, arith}
-use Rattle.std.proofs.lemmas.Int.{ints}
+use Rattle.std.proofs.Common.{◌≡◌, ℕ, zero, suc, ◌+◌, ◌/◌, ◌%◌, ◌<◌, unsigned_abs, List, [], ◌∷◌, ◌++◌, length, slice_index_or, take, drop, None, Some, refl, ap, ◌∙◌, arith}
 use Rattle.d_cal.specs.declared.start.Start.{Start}
-use Rattle.d_cal.specs.Calendar.{IsMonth, IsDayOf}
-use Rattle.d_cal.specs.Starts.{IsStart, IsInCalendar, date_text, time_text, text_of}
+use Rattle.d_cal.specs.Starts.{IsStart, IsInCalendar, date_text, time_text}
 use Rattle.d_cal.specs.StartCells.{HasPair}
 use Rattle.jiff_core.proofs.CalendarLemmas.{days_in_month_bounds}
 use Rattle.d_cal.proofs.Digits.{two_digits, four_digits, year_size}

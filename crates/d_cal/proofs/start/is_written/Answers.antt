@@ -1,4 +1,4 @@
-use Rattle.std.proofs.Common.{◌∷◌, ◌++◌, ◌↔◌, IsTrue, sym, arith}
+use Rattle.std.proofs.Common.{◌↔◌, IsTrue, sym}
 use Rattle.d_cal.specs.Starts.{IsMoment, date_text, time_text}
 use Rattle.d_cal.proofs.StartParts.{date_length, time_length, date_part, time_part}
 use Rattle.d_cal.proofs.StartPairs.{sizes}

@@ -1,4 +1,4 @@
-use Rattle.std.proofs.Common.{◌≡◌, ◌≤◌, None, Some, ap, arith}
+use Rattle.std.proofs.Common.{◌≤◌, arith}
 use Rattle.jiff_core.specs.Calendar.{days_in_month}
 use Rattle.d_cal.proofs.StartPairs.{pairs, sizes, none_some, some_once}
 use Rattle.d_cal.proofs.start.named_day.Goals as goal

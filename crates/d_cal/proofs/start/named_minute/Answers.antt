@@ -1,4 +1,4 @@
-use Rattle.std.proofs.Common.{◌≡◌, ◌+◌, ◌*◌, ◌/◌, ◌%◌, None, Some, ap, arith}
+use Rattle.std.proofs.Common.{◌/◌, ◌%◌, Some, ap, arith}
 use Rattle.d_cal.proofs.StartPairs.{pairs, none_some, some_once}
 use Rattle.d_cal.proofs.start.named_minute.Goals as goal
 use Rattle.d_cal.proofs.start.named_minute.Goals.{else-hour-lt24-via-then-hour-lt24+else-minute-lt60, else-hour-lt24-via-else-hour-lt24}

@@ -1,7 +1,5 @@
-use Rattle.std.proofs.Common.{◌≡◌, ◌+◌, ◌*◌, ◌/◌, ◌%◌, ℕ, ℤ, pos, unsigned_abs, Option, None, Some, MatchOption, ◌∙◌, ap, arith, w16, to_z}
+use Rattle.std.proofs.Common.{◌≡◌, ◌+◌, ◌*◌, ◌/◌, ◌%◌, pos, unsigned_abs, ◌∙◌, ap, arith, w16}
 use Rattle.std.proofs.lemmas.Int.{to_z_pos}
-use Rattle.d_cal.specs.declared.start.Start.{Start}
-use Rattle.d_cal.specs.Starts.{IsStart}
 use Rattle.d_cal.proofs.StartPairs.{pairs, sizes, none_some, some_once}
 use Rattle.d_cal.proofs.StartLaws.{year_of_size, month_found}
 use Rattle.d_cal.proofs.start.named_month.Goals as goal
