@@ -2,3 +2,5 @@ mod WeekdayFacts
 mod Moments
 mod Digits
 mod StartParts
+mod StartPairs
+pub mod StartLaws

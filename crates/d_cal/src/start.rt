@@ -4,7 +4,8 @@ ghost use Rattle.std.specs.Prelude.{◌≡◌, ◌↔◌, ◌⊎◌, ℕ, ◌+�
 ghost use Rattle.jiff_core.specs.Calendar.{days_in_month};
 ghost use Rattle.d_text.specs.Text.{zero_padded};
 ghost use Rattle.d_cal.specs.Starts.{date_text, time_text, text_of, start_of, IsInCalendar, IsMoment, IsStart};
-ghost use Rattle.d_cal.specs.StartCells.{FindsStart, HasPair};
+ghost use Rattle.d_cal.specs.Calendar.{IsDayOf};
+ghost use Rattle.d_cal.specs.StartCells.{FindsStart, FindsMonth, FindsDay, FindsMinute, HasPair};
 
 use crate::month::Month;
 
@@ -64,8 +65,8 @@ impl Start {
         requires { IsInCalendar self }
         ensures { result ≡ text_of self }
     {
-        let [thousands, hundreds] = two_digits(self.year as u32 / 100);
-        let [tens, ones] = two_digits(self.year as u32 % 100);
+        let [thousands, hundreds] = two_digits(self.year.unsigned_abs() as u32 / 100);
+        let [tens, ones] = two_digits(self.year.unsigned_abs() as u32 % 100);
         let [month_tens, month_ones] = two_digits(self.month as u32);
         let [day_tens, day_ones] = two_digits(self.day as u32);
         let [hour_tens, hour_ones] = two_digits(self.minute as u32 / 60);
@@ -104,20 +105,52 @@ fn named_start(cell: &[u8]) -> Option<Start>
     ensures found { FindsStart cell.now result }
     ensures calendar { IfSome result IsInCalendar }
 {
-    let year = pair_at(cell, 0)? * 100 + pair_at(cell, 2)?;
-    let month = Month::new(year as i16, pair_at(cell, 5)? as u8)?;
+    let month = named_month(cell)?;
+    let day = named_day(cell, month)?;
+    let minute = named_minute(cell)?;
+    Some(Start {
+        year: month.year,
+        month: month.number,
+        day,
+        minute,
+    })
+}
+
+/// The month whose numbers stand at their places in the cell.
+fn named_month(cell: &[u8]) -> Option<Month>
+    ensures { FindsMonth cell.now result }
+{
+    let front = pair_at(cell, 0)?;
+    let back = pair_at(cell, 2)?;
+    let number = pair_at(cell, 5)?;
+    Month::new((front * 100 + back) as i16, number as u8)
+}
+
+/// The day of the month whose number stands at its place in the cell.
+fn named_day(cell: &[u8], month: Month) -> Option<u8>
+    ensures found { FindsDay cell.now month result }
+    ensures range { IfSome result (IsDayOf month.year month.number) }
+{
     let day = pair_at(cell, 8)? as u8;
+    if day >= 1 && day <= month.days() {
+        Some(day)
+    } else {
+        None
+    }
+}
+
+/// The minute of a day whose hour and minute stand at their places in the cell.
+fn named_minute(cell: &[u8]) -> Option<u16>
+    ensures found { FindsMinute cell.now result }
+    ensures range { IfSome result (λ minute. minute < 1440) }
+{
     let hour = pair_at(cell, 11)?;
     let minute = pair_at(cell, 14)?;
-    if day == 0 || day > month.days() || hour >= 24 || minute >= 60 {
-        return None;
+    if hour < 24 && minute < 60 {
+        Some((hour * 60 + minute) as u16)
+    } else {
+        None
     }
-    Some(Start {
-        year: month.year(),
-        month: month.number(),
-        day,
-        minute: (hour * 60 + minute) as u16,
-    })
 }
 
 /// The number of the two digits at that place, or None exactly where there are none.
