@@ -1,6 +1,7 @@
 //! What a row of a battery file is.
 
 ghost use Rattle.std.specs.Prelude.{◌≡◌};
+ghost use Rattle.std.specs.List.{list_all};
 ghost use Rattle.d_batt.specs.Kinds as spec;
 
 use crate::setting::{Setting, is_word, setting_of};
@@ -31,7 +32,12 @@ pub(crate) fn kind_of(kind: &[u8], name: &[u8]) -> Option<Kind>
 fn is_mode_name(name: &[u8]) -> bool
     ensures { result ≡ spec.is_mode_name name.now }
 {
-    !name.is_empty()
-        && name.len() <= 32
-        && name.iter().all(|byte| byte.is_ascii_alphanumeric() || *byte == b'_' || *byte == b'-')
+    !name.is_empty() && name.len() <= 32 && has_name_bytes(name)
+}
+
+/// Whether these are ASCII letters, digits, underscores or minuses.
+fn has_name_bytes(name: &[u8]) -> bool
+    ensures { result ≡ list_all spec.is_name_byte name.now }
+{
+    name.iter().all(|byte| byte.is_ascii_alphanumeric() || *byte == b'_' || *byte == b'-')
 }
