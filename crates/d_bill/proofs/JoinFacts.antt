@@ -9,7 +9,8 @@ use Rattle.d_tier.specs.declared.peak.Peak.{Peak}
 use Rattle.d_tariff.specs.declared.period.Period.{Period}
 use Rattle.d_tariff.specs.Terms.{Terms}
 use Rattle.d_bill.specs.Inputs.{HasPeakPrices}
-use Rattle.d_bill.specs.Join.{Metered, interval_period, occurring, occurring_periods, has_group, demand_groups, demand_peak}
+use Rattle.d_meter.specs.Meters.{Metered}
+use Rattle.d_bill.specs.Join.{interval_period, occurring, occurring_periods, has_group, demand_groups, demand_peak}
 
 -- what holds of all holds of all and one more
 pub all_more : {X : Type 0} (P : X → Type 0) (x : X) (before after : List X) → after ≡ before ++ x ∷ [] → All P before → P x → All P after

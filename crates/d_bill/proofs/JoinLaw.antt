@@ -15,9 +15,10 @@ use Rattle.d_tariff.specs.Months.{fixed_of, minimum_of, floor_of, month_charge, 
 use Rattle.d_tariff.specs.Terms.{Terms, IsTariff, IsMinimum, IsHourGrid, HasTable, HasTables, HasEnergyPrices, HasDemandPrices, period_at, tiers_at, flat_tiers_in}
 use Rattle.d_tariff.proofs.EntryFacts.{entry_keeps}
 use Rattle.d_tariff.proofs.MonthFacts.{month_within}
-use Rattle.d_model.specs.Starts.{start_minute}
+use Rattle.d_cal.specs.Starts.{start_minute}
 use Rattle.d_bill.specs.Inputs.{HasPrices, HasPeakPrices}
-use Rattle.d_bill.specs.Join.{Metered, interval_period, interval_periods, occurs, occurring, occurring_periods, has_group, demand_groups, peak_of, demand_peak, flat_peak}
+use Rattle.d_meter.specs.Meters.{Metered}
+use Rattle.d_bill.specs.Join.{interval_period, interval_periods, occurs, occurring, occurring_periods, has_group, demand_groups, peak_of, demand_peak, flat_peak}
 use Rattle.d_bill.specs.Law.{JoinsInRange}
 use Rattle.d_bill.proofs.JoinRange.{joined_fits}
 

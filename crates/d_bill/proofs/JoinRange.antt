@@ -16,11 +16,12 @@ use Rattle.d_tariff.specs.declared.period.Period.{Period}
 use Rattle.d_tariff.specs.Terms.{Terms, IsTariff, period_at}
 use Rattle.d_tariff.proofs.HourFacts.{hour_there}
 use Rattle.d_cal.specs.Calendar.{IsMonth}
-use Rattle.d_model.specs.Readings.{IsReadings}
-use Rattle.d_model.specs.Starts.{start_day, start_minute}
-use Rattle.d_model.specs.Storage.{Storage, IsStorage}
+use Rattle.d_meter.specs.Meters.{IsReadings}
+use Rattle.d_cal.specs.Starts.{start_day, start_minute}
+use Rattle.d_batt.specs.Storage.{Storage, IsStorage}
 use Rattle.d_bill.specs.Inputs.{IsInRange, HasPrices, HasPeakPrices}
-use Rattle.d_bill.specs.Join.{Metered, interval_period, interval_periods, occurs, occurring, occurring_periods, has_group, demand_groups, demand_peak, flat_peak, joined_peaks}
+use Rattle.d_meter.specs.Meters.{Metered}
+use Rattle.d_bill.specs.Join.{interval_period, interval_periods, occurs, occurring, occurring_periods, has_group, demand_groups, demand_peak, flat_peak, joined_peaks}
 
 -- a month has from 1 to 2976 intervals
 few_intervals : (count minutes days : ℕ) → IsReadingLength minutes → count * minutes ≡ days * 1440 → 28 ≤ days → days ≤ 31 → (1 ≤ count) × (count ≤ 8928)

@@ -1,3 +1,4 @@
+pub mod Deciding
 mod Values
 mod RangeFacts
 mod PartFacts

@@ -1,8 +1,8 @@
 -- Looking for the mode of a name.
 use Rattle.std.proofs.Common.{◌≡◌, ℕ, ◌<◌, ◌≤◌, List, length, get_or, refl, sym, ap, ◌∙◌, arith}
 use Rattle.std.proofs.lemmas.Option.{slice_get_within, slice_get_read, same_Some}
-use Rattle.d_model.specs.declared.mode.Mode.{Mode}
-use Rattle.d_model.specs.Storage.{HasDifferentNames}
+use Rattle.d_batt.specs.declared.mode.Mode.{Mode}
+use Rattle.d_batt.specs.Storage.{HasDifferentNames}
 use Rattle.d_bill.specs.ScheduleFile.{IsModeNamed}
 
 -- the mode that stands here has the name

@@ -5,7 +5,7 @@ use Rattle.std.specs.Ordering.{is_gt, int_cmp}
 use Rattle.std.proofs.lemmas.Int.{ints}
 use Rattle.std.proofs.lemmas.Bool.Decides.{nat_tests}
 use Rattle.d_num.specs.Amount.{IsWithin}
-use Rattle.d_model.specs.declared.mode.Mode.{Mode}
+use Rattle.d_batt.specs.declared.mode.Mode.{Mode}
 use Rattle.d_bill.specs.declared.arc.Arc.{Arc}
 use Rattle.d_bill.specs.Inputs.{Inputs}
 use Rattle.d_bill.specs.Flows.{IsPermitted, import_of, export_of, flow_of, grid_of, net_at, arc_of, permitted_arc, arc_of_flow}

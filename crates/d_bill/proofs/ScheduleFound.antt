@@ -1,19 +1,22 @@
 -- A file is a schedule or refused.
-use Rattle.std.proofs.Common.{◌≡◌, ◌⊎◌, inl, inr, ℕ, zero, suc, ◌+◌, ◌-◌, ◌<◌, ◌≤◌, List, [], ◌∷◌, ◌++◌, length, drop, map, codes, Option, None, Some, refl, sym, ap, ◌∙◌, arith, length-append}
+use Rattle.std.proofs.Common.{◌≡◌, ◌⊎◌, inl, inr, ℕ, zero, suc, ◌+◌, ◌-◌, ◌<◌, ◌≤◌, ℤ, pos, ◌≤ℤ◌, List, [], ◌∷◌, ◌++◌, length, drop, map, codes, Option, None, Some, refl, sym, ap, ◌∙◌, arith, length-append}
 use Rattle.std.specs.Prelude.{slice_get, slice_index}
 use Rattle.std.specs.Str.{str_to_ascii_lowercase}
 use Rattle.std.proofs.lemmas.List.{drop_at, get_or_append_left, get_or_at}
 use Rattle.std.proofs.lemmas.Bool.{cases_order}
 use Rattle.std.proofs.lemmas.Option.{same_Some, none-some}
 use Rattle.d_table.specs.Table.{row_at, cell_in}
-use Rattle.d_model.specs.declared.mode.Mode.{Mode}
+use Rattle.d_batt.specs.declared.mode.Mode.{Mode}
 use Rattle.d_bill.specs.declared.schedule.ScheduleFault.{ScheduleFault}
 use Rattle.d_bill.specs.declared.schedule.ScheduleFault.TheVariants as fault
 use Rattle.d_bill.specs.Inputs.{Inputs}
-use Rattle.d_model.specs.Starts.{IsMoment, date_text, time_text, start_day, start_minute}
+use Rattle.d_cal.specs.Calendar.{IsMonth, IsDayOf}
+use Rattle.d_cal.specs.Starts.{IsMoment, IsInCalendar, IsStart, date_text, time_text, start_of}
+use Rattle.d_cal.specs.declared.start.Start.{Start}
+use Rattle.jiff_core.specs.Calendar.{days_in_month}
 use Rattle.d_bill.specs.ScheduleFile.{HasHeader, HasStart, IsModeNamed, NamesMode, IsRow, IsRightTo, IsScheduleFault}
 use Rattle.d_bill.specs.ScheduleLaw.{HasOneSchedule, HasOneFault, IsReadOnce}
-use Rattle.d_model.proofs.Deciding.{Decided, holds, fails, both, one_of, restated, same_number, same_text, same_cells}
+use Rattle.d_bill.proofs.Deciding.{Decided, holds, fails, both, one_of, restated, same_number, same_text, same_cells, is_below, at_most, integer_at_most}
 use Rattle.d_bill.proofs.ModeNames.{nowhere}
 use Rattle.d_bill.proofs.ScheduleRows.{right_more, rows_read}
 use Rattle.d_bill.proofs.ScheduleLaws.{schedule_same, schedule_right, fault_same}
@@ -36,13 +39,32 @@ moment_parts cell date time m = parts (slice_index (drop (length date) cell) 0) 
     parts b s same_b same_s = rw (same_b, same_s) (m.form, m.between_is, m.seconds_are)
 
 -- a cell is this moment
-pub moment_decided : (cell date time : List ℕ) → Decided (IsMoment cell date time)
+moment_decided : (cell date time : List ℕ) → Decided (IsMoment cell date time)
 moment_decided cell date time = of (slice_index (drop (length date) cell) 0) (drop (length time) (drop 1 (drop (length date) cell))) (moment_parts cell date time)
   where
     of : (b : ℕ) (s : List ℕ) → (IsMoment cell date time → HasParts cell date time b s) → Decided (IsMoment cell date time)
     of b s there = restated (λ h. record { between = b; seconds = s; form = h.0; between_is = h.1.0; seconds_are = h.1.1 })
         (λ m. let p = there m in (p.0, (p.1, p.2)))
         (both (same_text cell (date ++ b ∷ (time ++ s))) (both (one_of (same_number b 84) (same_number b 32)) (one_of (same_text s []) (same_text s (codes ":00")))))
+
+-- a start is one of the calendar
+calendar_decided : (start : Start) → Decided (IsInCalendar start)
+calendar_decided start = restated (λ h. record { month = h.0; day = h.1.0; minute = h.1.1 }) (λ s. (s.month, (s.day, s.minute)))
+    (both month (both day (is_below start.minute 1440)))
+  where
+    month : Decided (IsMonth start.year start.month)
+    month = restated (λ h. record { after_year_0 = h.0; before_year_10000 = h.1.0; from_january = h.1.1.0; to_december = h.1.1.1 })
+        (λ m. (m.after_year_0, (m.before_year_10000, (m.from_january, m.to_december))))
+        (both (integer_at_most (pos 1) start.year) (both (integer_at_most start.year (pos 9999)) (both (at_most 1 start.month) (at_most start.month 12))))
+
+    day : Decided (IsDayOf start.year start.month start.day)
+    day = restated (λ h. record { from_first = h.0; to_last = h.1 }) (λ d. (d.from_first, d.to_last))
+        (both (at_most 1 start.day) (at_most start.day (days_in_month start.year start.month)))
+
+-- a cell is this start
+start_decided : (cell : List ℕ) (start : Start) → Decided (IsStart cell start)
+start_decided cell start = restated (λ h. record { in_calendar = h.0; moment = h.1 }) (λ s. (s.in_calendar, s.moment))
+    (both (calendar_decided start) (moment_decided cell (date_text start.year start.month start.day) (time_text start.minute)))
 
 -- the mode of this number has the name
 mode_decided : (modes : List Mode) (name : List ℕ) (number : ℕ) → Decided (IsModeNamed modes name number)
@@ -85,7 +107,7 @@ data Checked (i : Inputs) (rows : List (List (List ℕ))) (row : ℕ) : Type 0 w
 -- one row more
 row_checked : (i : Inputs) (rows : List (List (List ℕ))) (row : ℕ) → row < length i.net → IsRightTo i rows row → Checked i rows (row + 1)
 row_checked i rows row there before =
-    by_start (moment_decided (cell_in (row_at rows (row + 1)) 0) (date_text i.year i.number (start_day i.minutes row)) (time_text (start_minute i.minutes row)))
+    by_start (start_decided (cell_in (row_at rows (row + 1)) 0) (start_of i.year i.number i.minutes row))
   where
     by_mode : HasStart i rows row → ((number : ℕ) × NamesMode i rows row number) ⊎ ((number : ℕ) → NamesMode i rows row number → ⊥) → Checked i rows (row + 1)
     by_mode start (inl found) = all_right (right_more i rows row found.0 before start found.1)

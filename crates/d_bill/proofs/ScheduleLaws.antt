@@ -7,7 +7,7 @@ use Rattle.d_table.specs.Table.{row_at, cell_in}
 use Rattle.d_bill.specs.declared.schedule.ScheduleFault.{ScheduleFault}
 use Rattle.d_bill.specs.declared.schedule.ScheduleFault.TheVariants as fault
 use Rattle.d_bill.specs.Inputs.{Inputs}
-use Rattle.d_model.specs.Storage.{IsStorage}
+use Rattle.d_batt.specs.Storage.{IsStorage}
 use Rattle.d_bill.specs.ScheduleFile.{IsRow, IsRightTo, IsMiscounted, IsWrongStart, IsWrongMode, IsScheduleFile, IsScheduleFault}
 use Rattle.d_bill.proofs.ModeNames.{one_mode}
 

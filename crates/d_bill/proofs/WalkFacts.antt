@@ -5,8 +5,8 @@ use Rattle.std.proofs.lemmas.Int.{ints}
 use Rattle.std.proofs.lemmas.Option.{slice_get_within, get_or_from_slice_get}
 use Rattle.d_num.specs.Amount.{IsWithin}
 use Rattle.d_num.proofs.Sums.{sum_more, sum_none}
-use Rattle.d_model.specs.declared.mode.Mode.{Mode}
-use Rattle.d_model.specs.Storage.{IsMode}
+use Rattle.d_batt.specs.declared.mode.Mode.{Mode}
+use Rattle.d_batt.specs.Storage.{IsMode}
 use Rattle.d_bill.specs.Inputs.{Inputs, IsInRange}
 use Rattle.d_bill.specs.Flows.{net_at, grid_of, flow_at}
 use Rattle.d_bill.specs.Schedules.{KeepsRules, KeepsAt, IsFeasible, IsFirstBreak, change_of, level_at}

@@ -2,7 +2,7 @@
 -- the import of one interval is never set against the export of another.
 use Rattle.std.specs.Prelude.{ℕ, ℤ, pos, neg_ℤ, ◌+ℤ◌, ◌*ℤ◌, ◌≤ℤ◌, ◌&&◌, List, Option, Some, None, option_map, option_and_then, unwrap_or, if◌then◌else◌, slice_get, slice_index, slice_index_or, int_le, int_div}
 use Rattle.std.specs.Int.{int_max}
-use Rattle.d_model.specs.declared.mode.Mode.{Mode}
+use Rattle.d_batt.specs.declared.mode.Mode.{Mode}
 use Rattle.d_bill.specs.declared.arc.Arc.{Arc}
 use Rattle.d_bill.specs.Inputs.{Inputs}
 

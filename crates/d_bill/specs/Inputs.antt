@@ -9,7 +9,7 @@ use Rattle.d_tier.specs.Tables.{IsTierTable}
 use Rattle.d_tariff.specs.declared.period.Period.{Period}
 use Rattle.d_tariff.specs.Terms.{period_at}
 use Rattle.d_cal.specs.Calendar.{IsMonth}
-use Rattle.d_model.specs.Storage.{Storage, IsStorage}
+use Rattle.d_batt.specs.Storage.{Storage, IsStorage}
 
 -- a month, its net readings, the terms that hold in it, and the battery
 pub record Inputs : Type 0 where

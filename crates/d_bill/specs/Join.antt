@@ -8,21 +8,10 @@ use Rattle.d_tier.specs.declared.tier.Tier.{Tier}
 use Rattle.d_tariff.specs.declared.period.Period.{Period}
 use Rattle.d_tariff.specs.Terms.{Terms, period_at, tiers_at, flat_tiers_in}
 use Rattle.d_tariff.specs.Months.{fixed_of, minimum_of, floor_of, is_charged}
-use Rattle.d_model.specs.declared.meter.Meter.{Meter}
-use Rattle.d_model.specs.Starts.{start_day, start_minute}
-use Rattle.d_model.specs.Storage.{Storage}
+use Rattle.d_meter.specs.Meters.{Metered}
+use Rattle.d_cal.specs.Starts.{start_day, start_minute}
+use Rattle.d_batt.specs.Storage.{Storage}
 use Rattle.d_bill.specs.Inputs.{Inputs}
-
--- a month's readings: the length of an interval in minutes, and the net reading of each interval in Wh
-pub record Metered : Type 0 where
-  pub year : ℤ
-  pub number : ℕ
-  pub minutes : ℕ
-  pub net : List ℤ
-
--- a meter's readings
-abbrev pub metered_of : Meter → Metered
-metered_of m = record { year = m.month.year; number = m.month.number; minutes = m.minutes; net = m.net }
 
 -- energy is settled hour by hour only where there is a reading an hour
 abbrev pub IsSettled : Terms → Metered → Type 0

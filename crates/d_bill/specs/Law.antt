@@ -2,10 +2,11 @@
 use Rattle.std.specs.Prelude.{◌≡◌, ℕ, ℤ, ◌+ℤ◌, List, []}
 use Rattle.d_cal.specs.Calendar.{IsMonth}
 use Rattle.d_tariff.specs.Terms.{Terms, IsTariff, HasTables, HasGrids}
-use Rattle.d_model.specs.Readings.{IsReadings}
-use Rattle.d_model.specs.Storage.{Storage, IsStorage}
+use Rattle.d_meter.specs.Meters.{IsReadings}
+use Rattle.d_batt.specs.Storage.{Storage, IsStorage}
 use Rattle.d_bill.specs.Inputs.{Inputs, IsInRange}
-use Rattle.d_bill.specs.Join.{Metered, join_of}
+use Rattle.d_meter.specs.Meters.{Metered}
+use Rattle.d_bill.specs.Join.{join_of}
 use Rattle.d_bill.specs.Totals.{tally_by}
 use Rattle.d_bill.specs.Bills.{sum_of, group_charges, IsFirstLeast, IsLeast}
 use Rattle.d_bill.specs.Prices.{cost_of_flow, rate_gaps}

@@ -2,11 +2,11 @@
 -- A table's rows are all as long as its header, so each has these two cells.
 use Rattle.std.specs.Prelude.{◌≡◌, ◌≢◌, ℕ, ◌+◌, ◌<◌, List, [], ◌∷◌, Some, length, codes, slice_get, slice_index}
 use Rattle.d_table.specs.Table.{row_at, cell_in, IsHeader}
-use Rattle.d_model.specs.declared.mode.Mode.{Mode}
+use Rattle.d_batt.specs.declared.mode.Mode.{Mode}
 use Rattle.d_bill.specs.declared.schedule.ScheduleFault.{ScheduleFault}
 use Rattle.d_bill.specs.declared.schedule.ScheduleFault.TheVariants as fault
 use Rattle.d_bill.specs.Inputs.{Inputs}
-use Rattle.d_model.specs.Starts.{IsStartText}
+use Rattle.d_cal.specs.Starts.{IsStart, start_of}
 
 -- the header is exactly start and mode, ASCII case ignored
 abbrev pub HasHeader : List (List (List ℕ)) → Type 0
@@ -14,7 +14,7 @@ HasHeader rows = IsHeader (codes "start" ∷ codes "mode" ∷ []) (row_at rows 0
 
 -- data row t, counted from 0, has the start of interval t
 abbrev pub HasStart : Inputs → List (List (List ℕ)) → ℕ → Type 0
-HasStart i rows t = IsStartText (cell_in (row_at rows (t + 1)) 0) i.year i.number i.minutes t
+HasStart i rows t = IsStart (cell_in (row_at rows (t + 1)) 0) (start_of i.year i.number i.minutes t)
 
 -- the mode of this number has this name, byte by byte
 pub record IsModeNamed (modes : List Mode) (name : List ℕ) (number : ℕ) : Type 0 where

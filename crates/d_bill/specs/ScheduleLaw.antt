@@ -2,7 +2,7 @@
 use Rattle.std.specs.Prelude.{◌≡◌, ◌⊎◌, ℕ, List}
 use Rattle.d_bill.specs.declared.schedule.ScheduleFault.{ScheduleFault}
 use Rattle.d_bill.specs.Inputs.{Inputs}
-use Rattle.d_model.specs.Storage.{IsStorage}
+use Rattle.d_batt.specs.Storage.{IsStorage}
 use Rattle.d_bill.specs.ScheduleFile.{IsScheduleFile, IsScheduleFault}
 
 -- the rows are one schedule, and nothing is wrong with them

@@ -1,6 +1,6 @@
 -- Schedules, which are lists of mode numbers, one an interval, and the rules that they keep. All rules are our own.
 use Rattle.std.specs.Prelude.{◌≡◌, ◌⊎◌, ℕ, ℤ, pos, ◌<◌, ◌≤ℤ◌, ◌<ℤ◌, ◌+ℤ◌, List, Some, length, slice_get, slice_index, option_map, unwrap_or}
-use Rattle.d_model.specs.declared.mode.Mode.{Mode}
+use Rattle.d_batt.specs.declared.mode.Mode.{Mode}
 use Rattle.d_bill.specs.Inputs.{Inputs}
 use Rattle.d_num.specs.Sums.{sum_of_first}
 use Rattle.d_bill.specs.Flows.{IsPermitted}

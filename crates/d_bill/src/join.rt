@@ -5,7 +5,7 @@ ghost use Rattle.std.specs.Option.{ForSome};
 ghost use Rattle.d_tier.specs.Charges.{has_price};
 ghost use Rattle.d_tariff.specs.Terms.{HasDemandPrices};
 ghost use Rattle.d_tariff.specs.Shown.{terms_of};
-ghost use Rattle.d_model.specs.Shown.{storage_of};
+ghost use Rattle.d_batt.specs.Shown.{storage_of};
 ghost use Rattle.d_bill.specs.Inputs.{HasPrices, HasPeakPrices};
 ghost use Rattle.d_bill.specs.Join as spec;
 
@@ -13,7 +13,8 @@ use crate::problem::Problem;
 use crate::tally::PERIODS;
 use d_cal::{Month, Schedule};
 use d_list::Items;
-use d_model::{Battery, Meter};
+use d_batt::Battery;
+use d_meter::Meter;
 use d_num::{NoMemory, Watt};
 use d_tariff::{Period, Periods, Tariff};
 use d_tier::{Peak, Tiers};

@@ -3,7 +3,8 @@
 use crate::arc::Interval;
 use d_cal::Month;
 use d_list::Items;
-use d_model::{Battery, NetList};
+use d_batt::Battery;
+use d_meter::NetList;
 use d_num::{Money, Rate, Wh};
 use d_tariff::{Period, Periods};
 use d_tier::{Peak, Tiers};
@@ -26,7 +27,7 @@ pub struct Problem {
 }
 
 impl Model for Problem {
-    ghost use Rattle.d_model.specs.Shown.{storage_of};
+    ghost use Rattle.d_batt.specs.Shown.{storage_of};
     ghost use Rattle.d_bill.specs.Inputs.{Inputs, IsInRange};
 
     ghost Value = { Inputs };
@@ -67,7 +68,7 @@ impl Problem {
     ghost use Rattle.std.specs.Option.{ForSome};
     ghost use Rattle.d_num.specs.Amount.{IsWithin};
     ghost use Rattle.d_tariff.specs.Terms.{period_at};
-    ghost use Rattle.d_model.specs.Shown.{storage_of};
+    ghost use Rattle.d_batt.specs.Shown.{storage_of};
     ghost use Rattle.d_bill.specs.Inputs.{IsInRange, HasPrices, period_in, sell_of, sell_at, is_in_group};
     ghost use Rattle.d_bill.specs.Flows.{net_at};
     ghost use Rattle.d_bill.specs.Slopes.{tiered, tiered_at};

@@ -1,10 +1,10 @@
 //! The reader of a file of a schedule.
 
-ghost use Rattle.std.specs.Prelude.{◌≡◌, ℕ, ◌+◌, ◌<◌, length, OnOk, OnErr, IfErr, IfNone, IfSome};
-ghost use Rattle.d_bill.specs.ScheduleFile.{IsScheduleFile, IsScheduleFault, IsRightTo, IsModeNamed};
+ghost use Rattle.std.specs.Prelude.{◌≡◌, ℕ, ◌+◌, ◌<◌, ◌↔◌, IsTrue, length, OnOk, OnErr, IfErr, IfNone, IfSome};
+ghost use Rattle.d_bill.specs.ScheduleFile.{IsScheduleFile, IsScheduleFault, IsRightTo, IsModeNamed, HasHeader, HasStart};
 
 use crate::problem::Problem;
-use d_model::is_start;
+use d_cal::{Start, read_start};
 use d_table::Table;
 
 /// Why a table is no schedule. Rows are data rows, counted from 0.
@@ -75,18 +75,26 @@ fn check_row(table: &Table, problem: &Problem, t: u32) -> Result<(), ScheduleFau
     ensures right { OnOk result (IsRightTo problem.now table.now (t + 1)) }
     ensures fault { IfErr result (IsScheduleFault problem.now table.now) }
 {
-    if !is_start(
-        table.cell(t as usize, 0),
-        problem.month(),
-        problem.minutes(),
-        t,
-    ) {
+    if !has_start(table, problem, t) {
         return Err(ScheduleFault::Start(t as u64));
     }
     if mode_named(problem, table.cell(t as usize, 1)).is_none() {
         return Err(ScheduleFault::Mode(t as u64));
     }
     Ok(())
+}
+
+/// Whether data row t has the start of interval t.
+fn has_start(table: &Table, problem: &Problem, t: u32) -> bool
+    requires header { HasHeader table.now }
+    requires count { length table.now ≡ length problem.now.net + 1 }
+    requires there { t < length problem.now.net }
+    ensures { IsTrue result ↔ HasStart problem.now table.now t }
+{
+    match read_start(table.cell(t as usize, 0)) {
+        Some(start) => start == Start::of(problem.month(), problem.minutes(), t),
+        None => false,
+    }
 }
 
 /// The number of the battery's mode of that name, or None exactly where no mode has it.

@@ -7,14 +7,14 @@ ghost use Rattle.d_bill.specs.Flows.{import_of, export_of};
 use crate::arc::{Arc, At};
 use crate::problem::Problem;
 use crate::tally::Tally;
-use d_model::Mode;
+use d_batt::Mode;
 use d_num::{Watt, Wh};
 
 impl Problem {
     ghost use Rattle.std.specs.Prelude.{◌≡◌, ℕ, ◌*◌, ◌^◌, ◌<◌, ◌+ℤ◌, pos, length, OnOk, OnErr, IfErr, IfNone, IfSome, slice_get};
     ghost use Rattle.jiff_core.specs.Calendar.{IsBetween};
     ghost use Rattle.d_num.specs.Amount.{IsUpTo, IsWithin};
-    ghost use Rattle.d_model.specs.Storage.{IsMode};
+    ghost use Rattle.d_batt.specs.Storage.{IsMode};
     ghost use Rattle.d_bill.specs.Inputs.{IsInRange};
     ghost use Rattle.d_bill.specs.Flows.{net_at, grid_of, arc_of, permitted_arc, arc_of_flow};
     ghost use Rattle.d_bill.specs.Schedules.{change_of, KeepsRules, IsFeasible, IsFirstBreak};

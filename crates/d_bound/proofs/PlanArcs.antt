@@ -14,7 +14,7 @@ use Rattle.d_num.specs.declared.pot.Pot.TheVariants.{NoWay}
 use Rattle.d_num.specs.Pot.{IsPotWithin}
 use Rattle.d_num.specs.Amount.{IsWithin}
 use Rattle.d_num.proofs.Products.{product_within}
-use Rattle.d_model.specs.declared.mode.Mode.{Mode}
+use Rattle.d_batt.specs.declared.mode.Mode.{Mode}
 use Rattle.d_bill.specs.declared.arc.Arc.{Arc}
 use Rattle.d_bill.specs.Inputs.{Inputs, period_in, sell_at}
 use Rattle.d_bill.specs.Flows.{permitted_arc, flow_of, import_of, export_of}

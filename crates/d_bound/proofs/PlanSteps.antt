@@ -5,7 +5,7 @@ use Rattle.std.proofs.lemmas.Bool.Decides.{nat_tests}
 use Rattle.std.proofs.lemmas.Option.{slice_get_within}
 use Rattle.d_num.specs.declared.pot.Pot.TheVariants.{To, NoWay}
 use Rattle.d_bill.specs.declared.arc.Arc.{Arc}
-use Rattle.d_model.specs.declared.mode.Mode.{Mode}
+use Rattle.d_batt.specs.declared.mode.Mode.{Mode}
 use Rattle.d_bill.specs.Inputs.{Inputs}
 use Rattle.d_bill.specs.Flows.{IsPermitted, arc_of, net_at, grid_of}
 use Rattle.d_bill.specs.Schedules.{KeepsRules, change_of}

@@ -3,7 +3,7 @@ use Rattle.std.specs.Prelude.{◌≡◌, ◌⊎◌, ℕ, ◌*◌, ◌^◌, ◌�
 use Rattle.std.specs.Option.{ForSome}
 use Rattle.d_num.specs.Amount.{IsWithin}
 use Rattle.d_tariff.specs.declared.period.Period.{Period}
-use Rattle.d_model.specs.Storage.{IsStorage}
+use Rattle.d_batt.specs.Storage.{IsStorage}
 use Rattle.d_bill.specs.Inputs.{Inputs}
 use Rattle.d_bill.specs.Schedules.{IsFeasible}
 use Rattle.d_bill.specs.Bills.{IsFirstLeast}

@@ -7,7 +7,7 @@ use Rattle.d_num.specs.Amount.{IsWithin}
 use Rattle.d_num.specs.declared.pot.Pot.{Pot}
 use Rattle.d_num.specs.declared.pot.Pot.TheVariants.{To, NoWay}
 use Rattle.d_bill.specs.declared.arc.Arc.{Arc}
-use Rattle.d_model.specs.declared.mode.Mode.{Mode}
+use Rattle.d_batt.specs.declared.mode.Mode.{Mode}
 use Rattle.d_bill.specs.Inputs.{Inputs, period_in, sell_at}
 use Rattle.d_bill.specs.Flows.{arc_of, flow_at}
 use Rattle.d_bill.specs.Prices.{rate_of, cost_of_flow}

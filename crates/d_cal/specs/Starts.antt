@@ -39,9 +39,17 @@ pub record IsStart (cell : List ℕ) (start : Start) : Type 0 where
   pub in_calendar : IsInCalendar start
   pub moment : IsMoment cell (date_text start.year start.month start.day) (time_text start.minute)
 
--- the start of interval t of the month, where intervals are so many minutes long
+-- the day of the month, from 1, on which interval t starts, where intervals are so many minutes long
+abbrev pub start_day : ℕ → ℕ → ℕ
+start_day minutes t = t * minutes / 1440 + 1
+
+-- the minute of that day, from 0
+abbrev pub start_minute : ℕ → ℕ → ℕ
+start_minute minutes t = t * minutes % 1440
+
+-- the start of interval t of the month
 abbrev pub start_of : ℤ → ℕ → ℕ → ℕ → Start
-start_of year number minutes t = record { year = year; month = number; day = t * minutes / 1440 + 1; minute = t * minutes % 1440 }
+start_of year number minutes t = record { year = year; month = number; day = start_day minutes t; minute = start_minute minutes t }
 
 -- a cell is one start at most
 abbrev pub HasOneStart : Type 0

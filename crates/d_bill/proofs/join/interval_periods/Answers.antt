@@ -1,5 +1,6 @@
 use Rattle.std.proofs.Common.{◌<◌, arith}
-use Rattle.d_bill.specs.Join.{metered_of, interval_period}
+use Rattle.d_meter.specs.Shown.{metered_of}
+use Rattle.d_bill.specs.Join.{interval_period}
 use Rattle.d_bill.proofs.JoinFacts.{all_more, map_more, interval_is}
 use Rattle.d_bill.proofs.join.interval_periods.Goals as goal
 

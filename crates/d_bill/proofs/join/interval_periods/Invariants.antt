@@ -1,6 +1,7 @@
 use Rattle.std.proofs.Common.{◌≡◌, ◌<◌, map, All}
 use Rattle.std.specs.List.{range_with_len}
-use Rattle.d_bill.specs.Join.{interval_period, metered_of}
+use Rattle.d_meter.specs.Shown.{metered_of}
+use Rattle.d_bill.specs.Join.{interval_period}
 use Rattle.d_bill.proofs.join.interval_periods.Given as goal
 
 abbrev pub invariant-loop-t : goal.invariant-loop-t

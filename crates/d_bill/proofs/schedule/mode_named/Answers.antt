@@ -1,7 +1,7 @@
 use Rattle.std.proofs.Common.{◌≡◌, ◌∙◌, ap, sym, arith, below_more, true≢false}
 use Rattle.std.proofs.lemmas.Slice.Eq.{bytes_eq-Decides}
-use Rattle.d_model.specs.declared.mode.Mode.{Mode}
-use Rattle.d_model.specs.Storage.{Storage}
+use Rattle.d_batt.specs.declared.mode.Mode.{Mode}
+use Rattle.d_batt.specs.Storage.{Storage}
 use Rattle.d_bill.proofs.ModeNames.{named_here, not_here, nowhere}
 use Rattle.d_bill.proofs.schedule.mode_named.Goals as goal
 use Rattle.d_bill.proofs.schedule.mode_named.Goals.{After-as_slice-modes}

@@ -1,6 +1,6 @@
 use Rattle.std.proofs.Common.{◌≡◌, length, ◌*◌, arith, ap, ◌∙◌}
 use Rattle.std.proofs.Math.Path.{ap₂}
-use Rattle.d_model.specs.Storage.{Storage}
+use Rattle.d_batt.specs.Storage.{Storage}
 use Rattle.d_bound.proofs.PlanArcs.{costs_more, costs_all}
 use Rattle.d_bound.proofs.least.costs_of.Goals as goal
 

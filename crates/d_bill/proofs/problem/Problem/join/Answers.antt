@@ -2,7 +2,8 @@ use Rattle.std.proofs.Common.{◌<◌, All, sym, ap, subst, ◌∙◌}
 use Rattle.std.specs.Option.{ForSome}
 use Rattle.d_tariff.specs.Shown.{terms_of}
 use Rattle.d_bill.specs.Inputs.{HasPrices}
-use Rattle.d_bill.specs.Join.{metered_of, occurring_periods, demand_groups}
+use Rattle.d_meter.specs.Shown.{metered_of}
+use Rattle.d_bill.specs.Join.{occurring_periods, demand_groups}
 use Rattle.d_bill.proofs.JoinRange.{joined_fits}
 use Rattle.d_bill.proofs.problem.Problem.join.Goals as goal
 

@@ -1,8 +1,9 @@
 -- What can be decided over plain values: that it holds, or that it doesn't.
-use Rattle.std.proofs.Common.{◌≡◌, ◌⊎◌, inl, inr, ℕ, Bool, true, false, ◌==◌, List, Decides, bytes_eq, refl, sym, true≢false}
-use Rattle.std.proofs.lemmas.Bool.Decides.{Decides-eqb}
+use Rattle.std.proofs.Common.{◌≡◌, ◌⊎◌, inl, inr, ℕ, zero, suc, ◌<◌, ◌≤◌, Bool, true, false, ◌==◌, ltb, ℤ, pos, negsuc, ◌≤ℤ◌, List, [], ◌∷◌, length, Decides, bytes_eq, refl, sym, ◌∙◌, arith, Option, None, Some, true≢false}
+use Rattle.std.proofs.lemmas.Bool.Decides.{Decides-eqb, Decides-ltb, Decides-int_eq}
 use Rattle.std.proofs.lemmas.Slice.Eq.{bytes_eq-Decides, slice_eq-Decides}
 use Rattle.std.specs.Cmp.Lexicographic.{pointwise}
+use Rattle.std.proofs.lemmas.Int.{ints}
 
 -- it holds, or it does not
 pub data Decided (P : Type 0) : Type 0 where
@@ -46,3 +47,22 @@ same_text xs ys = by_test (bytes_eq xs ys) (bytes_eq-Decides xs ys)
 -- rows of texts
 pub same_cells : (xs ys : List (List ℕ)) → Decided (xs ≡ ys)
 same_cells xs ys = by_test (pointwise bytes_eq xs ys) (slice_eq-Decides bytes_eq-Decides xs ys (pointwise bytes_eq xs ys) refl)
+
+-- one is below another
+pub is_below : (x y : ℕ) → Decided (x < y)
+is_below x y = by_test (ltb x y) (Decides-ltb x y)
+
+-- one is at most another
+pub at_most : (x y : ℕ) → Decided (x ≤ y)
+at_most x y = restated (λ lt. omega arith) (λ le. omega arith) (is_below x (suc y))
+
+-- integers
+pub same_integer : (x y : ℤ) → Decided (x ≡ y)
+same_integer x y = by_test _ (Decides-int_eq x y)
+
+-- one is at most another
+pub integer_at_most : (x y : ℤ) → Decided (x ≤ℤ y)
+integer_at_most (pos m) (pos n) = restated (λ le. omega (arith, ints)) (λ le. omega (arith, ints)) (at_most m n)
+integer_at_most (pos m) (negsuc n) = fails (λ le. omega (arith, ints))
+integer_at_most (negsuc m) (pos n) = holds (omega (arith, ints))
+integer_at_most (negsuc m) (negsuc n) = restated (λ le. omega (arith, ints)) (λ le. omega (arith, ints)) (at_most n m)
