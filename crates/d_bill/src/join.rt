@@ -6,6 +6,7 @@ ghost use Rattle.d_tier.specs.Charges.{has_price};
 ghost use Rattle.d_tariff.specs.Terms.{HasDemandPrices};
 ghost use Rattle.d_tariff.specs.Shown.{terms_of};
 ghost use Rattle.d_batt.specs.Shown.{storage_of};
+ghost use Rattle.d_meter.specs.Shown.{metered_of};
 ghost use Rattle.d_bill.specs.Inputs.{HasPrices, HasPeakPrices};
 ghost use Rattle.d_bill.specs.Join as spec;
 
@@ -35,8 +36,8 @@ impl Problem {
         battery: &Battery,
         prior: Watt,
     ) -> Result<Problem, NoMemory>
-        requires { spec.IsSettled (terms_of tariff.now) (spec.metered_of meter.now) }
-        ensures { IfOk result (λ problem. problem ≡ spec.join_of (terms_of tariff.now) (spec.metered_of meter.now) (storage_of battery.now) prior) }
+        requires { spec.IsSettled (terms_of tariff.now) (metered_of meter.now) }
+        ensures { IfOk result (λ problem. problem ≡ spec.join_of (terms_of tariff.now) (metered_of meter.now) (storage_of battery.now) prior) }
     {
         let periods = interval_periods(alloc, &tariff.energy_hours, meter)?;
         let demands = interval_periods(alloc, &tariff.demand_hours, meter)?;
@@ -64,7 +65,7 @@ fn interval_periods(
     schedule: &Schedule,
     meter: &Meter,
 ) -> Result<Items<u8>, NoMemory>
-    ensures value { IfOk result (λ periods. periods ≡ spec.interval_periods schedule.now.weekday schedule.now.weekend (spec.metered_of meter.now)) }
+    ensures value { IfOk result (λ periods. periods ≡ spec.interval_periods schedule.now.weekday schedule.now.weekend (metered_of meter.now)) }
     ensures range { IfOk result (λ periods. All (λ number. number < 36) periods) }
 {
     let mut periods = Items::new(alloc);

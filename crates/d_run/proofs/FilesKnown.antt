@@ -1,59 +1,96 @@
 -- Each file's rows have one value, or one refusal.
-use Rattle.std.proofs.Common.{◌≡◌, ◌⊎◌, inl, inr, ℕ, ◌*◌, ◌^◌, ◌<◌, ℤ, pos, List, length, get_or, refl, ap, subst, ◌∙◌, arith}
-use Rattle.std.proofs.lemmas.List.{get_or_default}
-use Rattle.jiff_core.specs.Calendar.{days_in_month}
-use Rattle.d_num.specs.Amount.{IsWithin}
+use Rattle.std.proofs.Common.{◌≡◌, ◌⊎◌, inl, inr, ℕ, ℤ, List, Result, Ok, Err, refl, ap, sym, ◌∙◌}
 use Rattle.d_tariff.specs.Terms.{Terms}
 use Rattle.d_urdb.specs.declared.rule.RuleChoice.{RuleChoice}
 use Rattle.d_urdb.proofs.TariffLaw.{accepts_tariffs, accepts_tables, accepts_grids}
-use Rattle.d_model.specs.Readings.{IsReadings}
+use Rattle.d_meter.specs.Meters.{Metered}
+use Rattle.d_meter.specs.Readings as readings
+use Rattle.d_meter.specs.declared.fault.MeterFault.TheVariants as meter_fault
+use Rattle.d_meter.proofs.MonthLaw.{accepts_months, one_outcome as one_month}
+use Rattle.d_batt.specs.Storage.{Storage, IsStorage}
+use Rattle.d_batt.specs.BatteryFile as battery
+use Rattle.d_batt.specs.declared.fault.BatteryFault.TheVariants as battery_fault
+use Rattle.d_batt.proofs.BatteryLaw.{accepts_batteries, one_outcome as one_battery}
 use Rattle.d_bill.proofs.JoinLaw.{joins_in_range}
-use Rattle.d_run.specs.Record.{IsRecord, rows_with_label}
-use Rattle.d_table.specs.Table.{row_at, IsRectangular}
+use Rattle.d_table.specs.Table.{IsRectangular}
 use Rattle.d_bill.specs.declared.schedule.ScheduleFault.{ScheduleFault}
 use Rattle.d_bill.specs.declared.schedule.ScheduleFault.TheVariants.{Shape}
-use Rattle.d_model.specs.Storage.{Storage, IsStorage}
 use Rattle.d_bill.specs.Inputs.{Inputs, IsInRange}
 use Rattle.d_bill.specs.ScheduleLaw.{HasOneSchedule, HasOneFault}
 use Rattle.d_bill.proofs.ScheduleFound.{read_once}
-use Rattle.d_run.specs.ReadingsFile.{Hourly, IsHourly}
-use Rattle.d_run.specs.BatteryFile.{IsBatteryFile}
-use Rattle.d_run.specs.Answer.{Answer, refused, RefusesReadings, RefusesBattery, RefusesSchedule, MeansSchedule, joined}
+use Rattle.d_bill.proofs.Deciding.{Decided, holds, fails}
+use Rattle.d_run.specs.Record.{IsRecord, rows_with_label}
+use Rattle.d_run.specs.Answer.{Answer, refused, RefusesRows, MeansRows, RefusesReadings, MeansReadings, RefusesBattery, MeansBattery, RefusesSchedule, MeansSchedule, joined}
+use Rattle.d_run.specs.declared.fault.Refusal.{Refusal}
 use Rattle.d_run.specs.declared.fault.Refusal.TheVariants.{Readings, Battery, Schedule}
-use Rattle.d_run.proofs.Deciding.{Decided, holds, fails, Found, found, nothing, same_number, each_item}
+use Rattle.d_run.proofs.RecordFound.{even_decided}
 use Rattle.d_run.proofs.StageFacts.{IsKnown, known_refused, known_value}
-use Rattle.d_run.proofs.FileLaws.{month_same, battery_same}
-use Rattle.d_run.proofs.ReadingsFacts.{reading_small}
-use Rattle.d_run.proofs.MonthFound.{month_found}
-use Rattle.d_run.proofs.BatteryFound.{battery_found}
 
--- readings are one month or refused
-pub month_known : (rows : List (List (List ℕ))) → IsKnown (RefusesReadings rows) (IsHourly rows)
-month_known rows = by_month (month_found rows)
-  where
-    made : ℤ → ℕ → List ℤ → Hourly
-    made y n w = record { year = y; number = n; net = w }
+-- each list of rows has one outcome, and no other
+abbrev HasOneOutcome : {V F : Type 0} → (List (List (List ℕ)) → Result V F → Type 0) → Type 0
+HasOneOutcome {V} {F} IsOutcome =
+    (rows : List (List (List ℕ))) → (outcome : Result V F) × IsOutcome rows outcome × ((other : Result V F) → IsOutcome rows other → other ≡ outcome)
 
-    same_month : (one other : Hourly) → IsHourly rows one → IsHourly rows other → made other.year other.number other.net ≡ made one.year one.number one.net
-    same_month one other is is_other =
-        let same = month_same rows other.year one.year other.number one.number other.net one.net is_other is in
-        rw (same.year_is, same.number_is, same.net_is) refl
+-- rows that have one outcome mean one thing, or are refused for one cause
+module _ {V F : Type 0} (IsOutcome : List (List (List ℕ)) → Result V F → Type 0) (shape : F) (by : F → Refusal) (law : HasOneOutcome IsOutcome)
+    (rows : List (List (List ℕ))) where
+  rows_known : IsKnown (RefusesRows IsOutcome shape by rows) (MeansRows IsOutcome rows)
+  rows_known = by_shape (even_decided rows)
+    where
+      same_fault : (one other : F) → IsOutcome rows (Err one) → IsOutcome rows (Err other) → other ≡ one
+      same_fault one other is is_other =
+          let only = (law rows).2 in
+          let both : Err other ≡ Err one = only (Err other) is_other ∙ sym (only (Err one) is) in
+          cc
 
-    by_month : Found (IsHourly rows) → IsKnown (RefusesReadings rows) (IsHourly rows)
-    by_month (found month is) = known_value month is (λ other means. same_month month other is means) (λ end refuses. refuses.0 month is)
-    by_month (nothing none) = known_refused (refused Readings) (none, refl) (λ other refuses. refuses.1) none
+      same_value : (one other : V) → IsOutcome rows (Ok one) → IsOutcome rows (Ok other) → other ≡ one
+      same_value one other is is_other =
+          let only = (law rows).2 in
+          let both : Ok other ≡ Ok one = only (Ok other) is_other ∙ sym (only (Ok one) is) in
+          cc
+
+      not_both : (fault : F) (value : V) → IsOutcome rows (Err fault) → IsOutcome rows (Ok value) → ⊥
+      not_both fault value is is_value =
+          let only = (law rows).2 in
+          let both : Ok value ≡ Err fault = only (Ok value) is_value ∙ sym (only (Err fault) is) in
+          cc
+
+      shape_only : (IsRectangular rows → ⊥) → (end : Answer) → RefusesRows IsOutcome shape by rows end → end ≡ refused (by shape)
+      shape_only none end (inl other) = other.1
+      shape_only none end (inr fault) = absurd (none fault.1)
+
+      fault_only : IsRectangular rows → (fault : F) → IsOutcome rows (Err fault) → (end : Answer) → RefusesRows IsOutcome shape by rows end
+          → end ≡ refused (by fault)
+      fault_only even fault is end (inl other) = absurd (other.0 even)
+      fault_only even fault is end (inr other) = other.3 ∙ ap (λ (f : F). refused (by f)) (same_fault fault other.0 is other.2)
+
+      not_refused : IsRectangular rows → (value : V) → IsOutcome rows (Ok value) → (end : Answer) → RefusesRows IsOutcome shape by rows end → ⊥
+      not_refused even value is end (inl other) = other.0 even
+      not_refused even value is end (inr other) = not_both other.0 value other.2 is
+
+      by_outcome : IsRectangular rows → (outcome : Result V F) → IsOutcome rows outcome → IsKnown (RefusesRows IsOutcome shape by rows) (MeansRows IsOutcome rows)
+      by_outcome even (Ok value) is = known_value value (even, is) (λ other means. same_value value other is means.1) (not_refused even value is)
+      by_outcome even (Err fault) is = known_refused (refused (by fault)) (inr (fault, even, is, refl)) (fault_only even fault is) (λ value means. not_both fault value is means.1)
+
+      by_shape : Decided (IsRectangular rows) → IsKnown (RefusesRows IsOutcome shape by rows) (MeansRows IsOutcome rows)
+      by_shape (holds even) = by_outcome even (law rows).0 (law rows).1
+      by_shape (fails none) = known_refused (refused (by shape)) (inl (none, refl)) (shape_only none) (λ value means. none means.0)
+
+-- readings are one month's or refused
+pub month_known : (rows : List (List (List ℕ))) → IsKnown (RefusesReadings rows) (MeansReadings rows)
+month_known rows = rows_known readings.IsOutcome meter_fault.Shape Readings one_month rows
 
 -- a battery is one or refused
-pub battery_known : (rows : List (List (List ℕ))) → IsKnown (RefusesBattery rows) (IsBatteryFile rows)
-battery_known rows = by_battery (battery_found rows)
-  where
-    by_battery : Found (IsBatteryFile rows) → IsKnown (RefusesBattery rows) (IsBatteryFile rows)
-    by_battery (found storage is) = known_value storage is (λ other means. battery_same rows other storage means is) (λ end refuses. refuses.0 storage is)
-    by_battery (nothing none) = known_refused (refused Battery) (none, refl) (λ other refuses. refuses.1) none
+pub battery_known : (rows : List (List (List ℕ))) → IsKnown (RefusesBattery rows) (MeansBattery rows)
+battery_known rows = rows_known battery.IsOutcome battery_fault.Shape Battery one_battery rows
+
+-- a battery file means a battery
+pub battery_is : (rows : List (List (List ℕ))) (storage : Storage) → MeansBattery rows storage → IsStorage storage
+battery_is rows storage means = accepts_batteries rows storage means.1
 
 -- a schedule is one or refused for one cause
 pub schedule_known : (i : Inputs) (rows : List (List (List ℕ))) → IsStorage i.storage → IsKnown (RefusesSchedule i rows) (MeansSchedule i rows)
-schedule_known i rows fine = by_shape (each_item (λ row. length row ≡ length (row_at rows 0)) (λ row. same_number (length row) (length (row_at rows 0))) rows)
+schedule_known i rows fine = by_shape (even_decided rows)
   where
     shape_only : (IsRectangular rows → ⊥) → (other : Answer) → RefusesSchedule i rows other → other ≡ refused (Schedule Shape)
     shape_only none other (inl shape) = shape.1
@@ -75,27 +112,12 @@ schedule_known i rows fine = by_shape (each_item (λ row. length row ≡ length 
     by_shape (holds even) = by_law even (read_once i rows fine)
     by_shape (fails none) = known_refused (refused (Schedule Shape)) (inl (none, refl)) (shape_only none) (λ value means. none means.0)
 
--- a month of readings is whole and within its limits
-month_fits : (rows : List (List (List ℕ))) (month : Hourly) → IsHourly rows month → IsReadings month.year month.number 60 month.net
-month_fits rows month is = record { pace = refl; whole = whole; small = λ t d lt. net_small t d lt }
-  where
-    hours : (count days : ℕ) → count ≡ days * 24 → count * 60 ≡ days * 1440
-    hours count days e = omega arith
-
-    whole : length month.net * 60 ≡ days_in_month month.year month.number * 1440
-    whole = hours (length month.net) (days_in_month month.year month.number) is.readings.whole
-
-    net_small : (t : ℕ) (d : ℤ) → t < length month.net → IsWithin (10 ^ 9) (get_or month.net t d)
-    net_small t d lt =
-        let row = is.readings.each t lt in
-        let same : get_or month.net t (pos 0) ≡ get_or month.net t d = get_or_default month.net t (pos 0) d lt in
-        subst (λ (z : ℤ). IsWithin (10 ^ 9) z) same (reading_small row.value (get_or month.net t (pos 0)) row.reading)
-
 -- what a record, readings and a battery mean is in range
-pub joined_in_range : (records readings : List (List (List ℕ))) (label : List ℕ) (rule : RuleChoice) (terms : Terms) (month : Hourly) (prior : ℤ) (storage : Storage)
-    → IsRecord records label rule terms → IsHourly readings month → IsStorage storage → IsInRange (joined terms month prior storage)
-joined_in_range records readings label rule terms month prior storage record_is month_is storage_is =
+pub joined_in_range : (records readings : List (List (List ℕ))) (label : List ℕ) (rule : RuleChoice) (terms : Terms) (metered : Metered) (prior : ℤ) (storage : Storage)
+    → IsRecord records label rule terms → MeansReadings readings metered → IsStorage storage → IsInRange (joined terms metered prior storage)
+joined_in_range records readings label rule terms metered prior storage record_is month_is storage_is =
     let kept = rows_with_label label records in
-    joins_in_range terms (record { year = month.year; number = month.number; minutes = 60; net = month.net }) storage prior
+    let month = accepts_months readings metered month_is.1 in
+    joins_in_range terms metered storage prior
     (accepts_tariffs kept label rule terms record_is.is) (accepts_tables kept label rule terms record_is.is) (accepts_grids kept label rule terms record_is.is)
-    month_is.month (month_fits readings month month_is) storage_is
+    month.0 month.1 storage_is

@@ -16,8 +16,7 @@ use Rattle.d_report.specs.Charges.{bill_text}
 use Rattle.d_report.specs.Plans.{plan_text}
 use Rattle.d_run.specs.Text.{break_text}
 use Rattle.d_run.specs.Record.{IsRecord}
-use Rattle.d_run.specs.BatteryFile.{IsBatteryFile}
-use Rattle.d_model.specs.Storage.{Storage, IsStorage}
+use Rattle.d_batt.specs.Storage.{Storage, IsStorage}
 use Rattle.d_report.specs.Lines.{line}
 use Rattle.d_run.specs.ReadingsFile.{IsHourly}
 use Rattle.d_run.specs.Answer.{Answer, Reads, is_too_long, is_refused, goes_on, says, after_opening, refused, IsPlanned, no_schedule, least, IsBilled, billed, broken, IsFor, IsPlannable, has_group, has_tiers, is_plain, no_storage, joined, IsWithTerms, IsAnswerTo, IsAnswer, rule_of, no_request, request, rows_in, ReadsBattery, ReadsSchedule, RefusesRecord, RefusesReadings, RefusesBattery, RefusesSchedule, MeansSchedule, longest_file, longest_record}
@@ -26,7 +25,7 @@ use Rattle.d_run.specs.declared.verdict.Verdict.TheVariants as verdict
 use Rattle.d_run.specs.declared.fault.Refusal.{Refusal}
 use Rattle.d_run.specs.declared.fault.Refusal.TheVariants.{Words, LongRecord, LongReadings, GroupsNotYet, TiersNotYet, LongBattery, LongSchedule}
 use Rattle.d_run.proofs.StageFacts.{IsKnown, known_refused, known_value}
-use Rattle.d_run.proofs.Deciding.{Decided, holds, fails, at_most}
+use Rattle.d_bill.proofs.Deciding.{Decided, holds, fails, at_most}
 use Rattle.d_words.proofs.RequestFound.{request_or_none, one_request}
 use Rattle.d_run.proofs.RecordFound.{record_known}
 use Rattle.d_run.proofs.FilesKnown.{month_known, battery_known, schedule_known, joined_in_range}

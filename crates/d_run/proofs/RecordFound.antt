@@ -15,7 +15,7 @@ use Rattle.d_run.specs.Answer.{Answer, says, refused, RefusesRecord}
 use Rattle.d_run.specs.declared.verdict.Verdict.TheVariants.{Record}
 use Rattle.d_run.specs.declared.fault.Refusal.TheVariants.{RecordShape}
 use Rattle.d_run.proofs.RecordKept.{outcome_kept, text_kept}
-use Rattle.d_run.proofs.Deciding.{Decided, holds, fails, same_number}
+use Rattle.d_bill.proofs.Deciding.{Decided, holds, fails, same_number}
 use Rattle.d_run.specs.Replies.{EndsBy}
 use Rattle.d_run.specs.declared.fault.Fault.{Fault}
 use Rattle.d_run.proofs.StageFacts.{IsKnown, known_refused, known_value, ends_weaker}
@@ -84,6 +84,14 @@ even_or_odd (header ∷ rest) = by_first (first_odd (header ∷ rest) (length re
             let next : row + 1 ≡ suc row = omega arith in
             ap (λ (cells : List (List ℕ)). length cells) (get_or_default (header ∷ rest) (suc row) d [] lt)
             ∙ sym (ap (λ (n : ℕ). length (row_at (header ∷ rest) n)) next) ∙ at
+
+-- rows have one length, or they haven't
+pub even_decided : (rows : List (List (List ℕ))) → Decided (IsRectangular rows)
+even_decided rows = by_odd (even_or_odd rows)
+  where
+    by_odd : IsRectangular rows ⊎ ((row : ℕ) × IsFirstOdd rows row) → Decided (IsRectangular rows)
+    by_odd (inl even) = holds even
+    by_odd (inr odd) = fails (λ even. no_odd rows odd.0 even odd.1)
 
 -- a record has one outcome
 outcome_same : (rows : List (List (List ℕ))) (label : List ℕ) (rule : RuleChoice) (one other : Result Terms Refused) → HasOutcome rows label rule one

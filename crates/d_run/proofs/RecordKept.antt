@@ -8,7 +8,8 @@ use Rattle.d_urdb.specs.Record.{IsOutcome, column_outcome, one_row_outcome, labe
 use Rattle.d_urdb.specs.declared.fault.Refused.{Refused}
 use Rattle.d_urdb.specs.declared.rule.RuleChoice.{RuleChoice}
 use Rattle.d_run.specs.Record.{rows_with_label}
-use Rattle.d_run.specs.RecordText.{record_text}
+use Rattle.d_run.specs.RecordText.{record_text, hourly_text}
+use Rattle.d_report.specs.Tariffs.{tariff_text}
 
 -- none, one, or by the second row too many
 first_two : (reader : CellReader) (header : List (List ℕ)) (rule : RuleChoice) (rows : List (List (List ℕ)))
@@ -40,3 +41,18 @@ pub text_kept : (rows : List (List (List ℕ))) (label : List ℕ) (fault : Refu
     → record_text (kept_rows label_name label rows) fault ≡ record_text (rows_with_label label rows) fault
 text_kept [] label fault = refl
 text_kept (header ∷ rows) label fault = text_first header (filter (has_value (column_of label_name header) label) rows) fault
+
+hourly_first : (header : List (List ℕ)) (rows : List (List (List ℕ))) → hourly_text (header ∷ take 2 rows) ≡ hourly_text (header ∷ rows)
+hourly_first header [] = refl
+hourly_first header (row ∷ rows) = refl
+
+-- the line of a record that can't be settled
+pub hourly_kept : (rows : List (List (List ℕ))) (label : List ℕ) → hourly_text (kept_rows label_name label rows) ≡ hourly_text (rows_with_label label rows)
+hourly_kept [] label = refl
+hourly_kept (header ∷ rows) label = hourly_first header (filter (has_value (column_of label_name header) label) rows)
+
+-- the text of a tariff, which shows names of the header
+pub tariff_kept : (rows : List (List (List ℕ))) (label : List ℕ) (terms : Terms)
+    → tariff_text (kept_rows label_name label rows) label terms ≡ tariff_text (rows_with_label label rows) label terms
+tariff_kept [] label terms = refl
+tariff_kept (header ∷ rows) label terms = refl

@@ -1,11 +1,11 @@
 -- A schedule is feasible, or has a first break.
 use Rattle.std.proofs.Common.{◌≡◌, ◌⊎◌, inl, inr, ℕ, zero, suc, ◌<◌, ℤ, pos, ◌≤ℤ◌, ◌<ℤ◌, ◌+ℤ◌, List, length, Option, None, Some, slice_get, slice_index, arith, refl, sym, subst, ◌∙◌}
 use Rattle.std.proofs.lemmas.Int.{ints}
-use Rattle.d_model.specs.declared.mode.Mode.{Mode}
+use Rattle.d_batt.specs.declared.mode.Mode.{Mode}
 use Rattle.d_bill.specs.Inputs.{Inputs}
 use Rattle.d_bill.specs.Flows.{IsPermitted}
 use Rattle.d_bill.specs.Schedules.{KeepsRules, KeepsAt, IsFeasible, IsFirstBreak, level_at}
-use Rattle.d_run.proofs.Deciding.{Decided, holds, fails, both, restated, integer_at_most, same_number}
+use Rattle.d_bill.proofs.Deciding.{Decided, holds, fails, both, restated, integer_at_most, same_number}
 
 -- the rules with this mode
 abbrev ModeKeeps : Inputs → ℕ → ℤ → Mode → Type 0

@@ -1,6 +1,6 @@
 -- What the program answers to a list of words, given the files: a verdict, the text that it prints, and the files that it opens.
 -- The files are read one after the other, and the first that is too long or refused decides.
-use Rattle.std.specs.Prelude.{◌≡◌, ◌⊎◌, ℕ, ◌^◌, ◌<◌, ◌≤◌, ◌++◌, Bool, true, false, ℤ, pos, List, [], ◌∷◌, length, codes}
+use Rattle.std.specs.Prelude.{◌≡◌, ◌⊎◌, ℕ, ◌^◌, ◌<◌, ◌≤◌, ◌++◌, Bool, true, false, ℤ, pos, List, [], ◌∷◌, length, codes, Result, Ok, Err}
 use Rattle.d_desk.specs.Scene.{Files, Opening, opening, bytes_in}
 use Rattle.d_desk.specs.declared.opened.Direction.TheVariants.{In}
 use Rattle.std.specs.Fmt.{decimal}
@@ -11,24 +11,31 @@ use Rattle.d_urdb.specs.declared.rule.RuleChoice.{RuleChoice}
 use Rattle.d_urdb.specs.declared.rule.RuleChoice.TheVariants.{AsRecorded, NetBilling}
 use Rattle.d_bill.specs.declared.schedule.ScheduleFault.{ScheduleFault}
 use Rattle.d_bill.specs.declared.schedule.ScheduleFault.TheVariants.{Shape}
-use Rattle.d_model.specs.Storage.{Storage}
+use Rattle.d_meter.specs.Meters.{Metered}
+use Rattle.d_meter.specs.Readings as readings
+use Rattle.d_meter.specs.declared.fault.MeterFault.{MeterFault}
+use Rattle.d_meter.specs.declared.fault.MeterFault.TheVariants as meter_fault
+use Rattle.d_batt.specs.Storage.{Storage}
+use Rattle.d_batt.specs.BatteryFile as battery
+use Rattle.d_batt.specs.declared.fault.BatteryFault.{BatteryFault}
+use Rattle.d_batt.specs.declared.fault.BatteryFault.TheVariants as battery_fault
 use Rattle.d_bill.specs.Inputs.{Inputs}
 use Rattle.d_bill.specs.Schedules.{IsFeasible, IsFirstBreak}
 use Rattle.d_bill.specs.Bills.{IsFirstLeast, IsLeast}
-use Rattle.d_bill.specs.Join.{join_of}
+use Rattle.d_bill.specs.Join.{join_of, IsSettled}
 use Rattle.d_bill.specs.Slopes.{tiered, energy_cost}
 use Rattle.d_bill.specs.Totals.{tally_of, metered_tally}
 use Rattle.d_bill.specs.Law.{IsPlain}
 use Rattle.d_bill.specs.ScheduleFile.{IsScheduleFile, IsScheduleFault}
 use Rattle.d_words.specs.Words.{Asked, Wanted, IsRequest, plan_with, metered_bill as wants_metered_bill, schedule_bill}
+use Rattle.d_words.specs.Shows.{Seen, IsShow}
 use Rattle.d_run.specs.Record.{IsRecord, IsRecordFault, rows_with_label}
-use Rattle.d_run.specs.RecordText.{record_text}
-use Rattle.d_run.specs.ReadingsFile.{Hourly, IsHourly}
-use Rattle.d_run.specs.BatteryFile.{IsBatteryFile}
+use Rattle.d_run.specs.RecordText.{record_text, hourly_text}
 use Rattle.d_report.specs.Lines.{line}
 use Rattle.d_report.specs.Charges.{bill_text}
 use Rattle.d_report.specs.Plans.{plan_text}
-use Rattle.d_run.specs.Text.{break_text, schedule_fault_text}
+use Rattle.d_report.specs.Tariffs.{tariff_text}
+use Rattle.d_run.specs.Text.{break_text, meter_fault_text, battery_fault_text, schedule_fault_text}
 use Rattle.d_run.specs.declared.verdict.Verdict.{Verdict}
 use Rattle.d_run.specs.declared.verdict.Verdict.TheVariants as verdict
 use Rattle.d_run.specs.declared.fault.Refusal.{Refusal}
@@ -60,11 +67,11 @@ refusal_verdict Words = verdict.Words
 refusal_verdict LongRecord = verdict.Record
 refusal_verdict (RecordShape row) = verdict.Record
 refusal_verdict LongReadings = verdict.Readings
-refusal_verdict Readings = verdict.Readings
+refusal_verdict (Readings fault) = verdict.Readings
 refusal_verdict GroupsNotYet = verdict.Record
 refusal_verdict TiersNotYet = verdict.Record
 refusal_verdict LongBattery = verdict.Battery
-refusal_verdict Battery = verdict.Battery
+refusal_verdict (Battery fault) = verdict.Battery
 refusal_verdict LongSchedule = verdict.Battery
 refusal_verdict (Schedule fault) = verdict.Battery
 
@@ -74,11 +81,11 @@ refusal_text Words = line (codes "refused words 23 NotYet")
 refusal_text LongRecord = line (codes "refused record 0 TooLong")
 refusal_text (RecordShape row) = line (codes "refused record 0 Shape " ++ decimal row)
 refusal_text LongReadings = line (codes "refused readings 0 TooLong")
-refusal_text Readings = line (codes "refused readings 23 NotYet")
+refusal_text (Readings fault) = line (codes "refused readings " ++ meter_fault_text fault)
 refusal_text GroupsNotYet = line (codes "refused record 23 NotYet none 2")
 refusal_text TiersNotYet = line (codes "refused record 23 NotYet none 3")
 refusal_text LongBattery = line (codes "refused battery 0 TooLong")
-refusal_text Battery = line (codes "refused battery 23 NotYet")
+refusal_text (Battery fault) = line (codes "refused battery " ++ battery_fault_text fault)
 refusal_text LongSchedule = line (codes "refused schedule 0 TooLong")
 refusal_text (Schedule fault) = line (codes "refused schedule " ++ schedule_fault_text fault)
 
@@ -113,13 +120,30 @@ abbrev pub RefusesRecord : List (List (List ℕ)) → List ℕ → RuleChoice �
 RefusesRecord rows label rule end = ((row : ℕ) × IsFirstOdd rows row × (end ≡ refused (RecordShape row)))
     ⊎ ((fault : Refused) × IsRecordFault rows label rule fault × (end ≡ says verdict.Record (record_text (rows_with_label label rows) fault)))
 
--- readings are refused where they are no month
-abbrev pub RefusesReadings : List (List (List ℕ)) → Answer → Type 0
-RefusesReadings rows end = ((month : Hourly) → IsHourly rows month → ⊥) × (end ≡ refused Readings)
+-- a file's rows are refused where they differ in length, or by the first check that fails
+abbrev pub RefusesRows : {V F : Type 0} → (List (List (List ℕ)) → Result V F → Type 0) → F → (F → Refusal) → List (List (List ℕ)) → Answer → Type 0
+RefusesRows {V} {F} IsOutcome shape by rows end = ((IsRectangular rows → ⊥) × (end ≡ refused (by shape)))
+    ⊎ ((fault : F) × IsRectangular rows × IsOutcome rows (Err fault) × (end ≡ refused (by fault)))
 
--- a battery is refused where the rows are none
+-- rows of one length mean the value that comes of them
+abbrev pub MeansRows : {V F : Type 0} → (List (List (List ℕ)) → Result V F → Type 0) → List (List (List ℕ)) → V → Type 0
+MeansRows IsOutcome rows value = IsRectangular rows × IsOutcome rows (Ok value)
+
+-- readings are refused
+abbrev pub RefusesReadings : List (List (List ℕ)) → Answer → Type 0
+RefusesReadings = RefusesRows {V = Metered} {F = MeterFault} readings.IsOutcome meter_fault.Shape Readings
+
+-- or mean those of a month
+abbrev pub MeansReadings : List (List (List ℕ)) → Metered → Type 0
+MeansReadings = MeansRows {V = Metered} {F = MeterFault} readings.IsOutcome
+
+-- a battery is refused
 abbrev pub RefusesBattery : List (List (List ℕ)) → Answer → Type 0
-RefusesBattery rows end = ((storage : Storage) → IsBatteryFile rows storage → ⊥) × (end ≡ refused Battery)
+RefusesBattery = RefusesRows {V = Storage} {F = BatteryFault} battery.IsOutcome battery_fault.Shape Battery
+
+-- or rows mean one
+abbrev pub MeansBattery : List (List (List ℕ)) → Storage → Type 0
+MeansBattery = MeansRows {V = Storage} {F = BatteryFault} battery.IsOutcome
 
 -- a schedule is refused by its rows' lengths, or by the first check that fails
 abbrev pub RefusesSchedule : Inputs → List (List (List ℕ)) → Answer → Type 0
@@ -136,23 +160,28 @@ ReadsRecord files name label rule Next answer =
     Reads files name longest_record LongRecord (RefusesRecord (rows_in files name) label rule) (IsRecord (rows_in files name) label rule) Next answer
 
 -- the readings file in an answer
-abbrev pub ReadsReadings : Files → List ℕ → (Hourly → Answer → Type 0) → Answer → Type 0
+abbrev pub ReadsReadings : Files → List ℕ → (Metered → Answer → Type 0) → Answer → Type 0
 ReadsReadings files name Next answer =
-    Reads files name longest_file LongReadings (RefusesReadings (rows_in files name)) (IsHourly (rows_in files name)) Next answer
+    Reads files name longest_file LongReadings (RefusesReadings (rows_in files name)) (MeansReadings (rows_in files name)) Next answer
 
 -- the battery file in an answer
 abbrev pub ReadsBattery : Files → List ℕ → (Storage → Answer → Type 0) → Answer → Type 0
 ReadsBattery files name Next answer =
-    Reads files name longest_file LongBattery (RefusesBattery (rows_in files name)) (IsBatteryFile (rows_in files name)) Next answer
+    Reads files name longest_file LongBattery (RefusesBattery (rows_in files name)) (MeansBattery (rows_in files name)) Next answer
 
 -- the schedule file in an answer
 abbrev pub ReadsSchedule : Files → List ℕ → Inputs → (List ℕ → Answer → Type 0) → Answer → Type 0
 ReadsSchedule files name i Next answer =
     Reads files name longest_file LongSchedule (RefusesSchedule i (rows_in files name)) (MeansSchedule i (rows_in files name)) Next answer
 
--- what is planned or billed: a tariff's terms, a month of hourly readings, the highest flat demand of earlier months, and a battery
-abbrev pub joined : Terms → Hourly → ℤ → Storage → Inputs
-joined terms month prior storage = join_of terms (record { year = month.year; number = month.number; minutes = 60; net = month.net }) storage prior
+-- what is planned or billed: a tariff's terms, a month of readings, the highest flat demand of earlier months, and a battery
+abbrev pub joined : Terms → Metered → ℤ → Storage → Inputs
+joined terms metered prior storage = join_of terms metered storage prior
+
+-- where energy is settled hour by hour and there isn't a reading an hour, the record is refused with this text; else the answer goes on
+pub data Settles (text : List ℕ) (terms : Terms) (metered : Metered) (Next : Answer → Type 0) (answer : Answer) : Type 0 where
+  unsettled : (IsSettled terms metered → ⊥) → answer ≡ says verdict.Record text → Settles text terms metered Next answer
+  settled : IsSettled terms metered → Next answer → Settles text terms metered Next answer
 
 -- no battery: no level but 0, and one mode that changes nothing
 abbrev pub no_storage : Storage
@@ -198,21 +227,40 @@ IsFor files label problem wants_metered_bill answer = IsMeteredBill (problem no_
 IsFor files label problem (schedule_bill battery schedule) answer =
     ReadsBattery files battery (λ storage. ReadsSchedule files schedule (problem storage) (IsBilled (problem storage) label)) answer
 
--- the answer where the terms are known
-abbrev pub IsWithTerms : Files → Asked → Terms → Answer → Type 0
-IsWithTerms files asked terms answer =
-    ReadsReadings files asked.readings (λ month. IsFor files asked.label (joined terms month asked.prior_peak) asked.wanted) answer
+-- the answer where the terms are known, and the text of a record whose energy can't be settled
+abbrev pub IsWithTerms : Files → Asked → List ℕ → Terms → Answer → Type 0
+IsWithTerms files asked unsettled_text terms answer =
+    ReadsReadings files asked.readings
+    (λ metered. Settles unsettled_text terms metered (IsFor files asked.label (joined terms metered asked.prior_peak) asked.wanted)) answer
 
 -- the rule of billing: net billing where it is chosen, else the record's own
 abbrev pub rule_of : Bool → RuleChoice
 rule_of true = NetBilling
 rule_of false = AsRecorded
 
+-- the header and the rows of a record's label, in a file
+abbrev pub labelled_in : Files → List ℕ → List ℕ → List (List (List ℕ))
+labelled_in files name label = rows_with_label label (rows_in files name)
+
 -- the answer to a request
 abbrev pub IsAnswerTo : Files → Asked → Answer → Type 0
-IsAnswerTo files asked answer = ReadsRecord files asked.records asked.label (rule_of asked.net_billing) (IsWithTerms files asked) answer
+IsAnswerTo files asked answer =
+    ReadsRecord files asked.records asked.label (rule_of asked.net_billing)
+    (IsWithTerms files asked (hourly_text (labelled_in files asked.records asked.label))) answer
 
--- the answer to a list of words: they are no request, and nothing is opened; or they are, and the files decide
+-- the answer where the terms to show are known, and the rows with their label
+abbrev pub IsTariffOf : List (List (List ℕ)) → List ℕ → Terms → Answer → Type 0
+IsTariffOf rows label terms answer = answer ≡ says verdict.Done (tariff_text rows label terms)
+
+-- the answer to words that ask to see a record's tariff
+abbrev pub IsShownTo : Files → Seen → Answer → Type 0
+IsShownTo files seen answer =
+    ReadsRecord files seen.records seen.label (rule_of seen.net_billing) (IsTariffOf (labelled_in files seen.records seen.label) seen.label) answer
+
+-- the answer to a list of words: they ask for nothing, and nothing is opened; or they are a request or ask to see a tariff, and the files
+-- decide
 pub data IsAnswer (words : List (List ℕ)) (files : Files) (answer : Answer) : Type 0 where
-  no_request : ((asked : Asked) → IsRequest words asked → ⊥) → answer ≡ refused Words → IsAnswer words files answer
+  no_request : ((asked : Asked) → IsRequest words asked → ⊥) → ((seen : Seen) → IsShow words seen → ⊥) → answer ≡ refused Words
+      → IsAnswer words files answer
   request : (asked : Asked) → IsRequest words asked → IsAnswerTo files asked answer → IsAnswer words files answer
+  show : (seen : Seen) → IsShow words seen → IsShownTo files seen answer → IsAnswer words files answer

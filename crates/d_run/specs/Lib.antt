@@ -1,12 +1,8 @@
 pub mod Record
 pub mod Text
 pub mod RecordText
-pub mod ReadingsFile
-pub mod BatteryFile
 pub mod Answer
 pub mod Runs
 pub mod Replies
 pub mod Law
-pub mod Draft
-pub mod Faults
 pub mod Prepared

@@ -2,13 +2,18 @@
 use Rattle.std.specs.Prelude.{ℕ, ◌≤◌, List, Result, IsErrOf}
 use Rattle.d_desk.specs.Cause.{Rose}
 use Rattle.d_desk.specs.Scene.{Files, Scene}
-use Rattle.d_model.specs.Storage.{Storage}
+use Rattle.d_batt.specs.Storage.{Storage}
 use Rattle.d_bill.specs.Inputs.{Inputs}
-use Rattle.d_model.specs.declared.meter.Meter.{Meter}
+use Rattle.d_meter.specs.declared.meter.Meter.{Meter}
+use Rattle.d_meter.specs.Shown.{metered_of}
 use Rattle.d_tariff.specs.Shown.{terms_of}
 use Rattle.d_tariff.specs.declared.tariff.Tariff.{Tariff}
 use Rattle.d_words.specs.Asking.{asked_of, wanted_of}
-use Rattle.d_run.specs.Answer.{Answer, IsAnswerTo, IsWithTerms, IsFor, IsPlannable, IsPlanned, IsBilled, no_storage, ReadsBattery, ReadsSchedule}
+use Rattle.d_words.specs.Shows.{seen_of}
+use Rattle.d_words.specs.declared.show.Show.{Show}
+use Rattle.d_run.specs.RecordText.{hourly_text}
+use Rattle.d_run.specs.declared.record.Recorded.{Recorded}
+use Rattle.d_run.specs.Answer.{Answer, IsAnswerTo, IsShownTo, IsWithTerms, Settles, IsFor, IsPlannable, IsPlanned, IsBilled, no_storage, ReadsBattery, ReadsSchedule}
 use Rattle.d_run.specs.Replies.{PreparesOne, problem_of}
 use Rattle.d_run.specs.declared.fault.Fault.{Fault}
 use Rattle.d_run.specs.declared.fault.Fault.TheVariants.{Failed}
@@ -28,13 +33,22 @@ Prepares Is before now result = PreparesOne (Is before.files) before now result
 abbrev pub IsRequested : Request → Files → Answer → Type 0
 IsRequested request files = IsAnswerTo files (asked_of request)
 
--- the answer where the tariff is known
-abbrev pub IsWithTariff : Request → Tariff → Files → Answer → Type 0
-IsWithTariff request tariff files = IsWithTerms files (asked_of request) (terms_of tariff)
+-- the answer to words that ask to see a tariff
+abbrev pub IsSeen : Show → Files → Answer → Type 0
+IsSeen show files = IsShownTo files (seen_of show)
+
+-- the answer where the record is known
+abbrev pub IsWithRecord : Request → Recorded → Files → Answer → Type 0
+IsWithRecord request recorded files = IsWithTerms files (asked_of request) (hourly_text recorded.table) (terms_of recorded.tariff)
 
 -- the answer where tariff and readings are known
 abbrev pub IsWithMeter : Request → Tariff → Meter → Files → Answer → Type 0
 IsWithMeter request tariff meter files = IsFor files request.label.now (problem_of tariff meter request.prior_peak) (wanted_of request.task)
+
+-- the answer where the record and the readings are known
+abbrev pub IsWithReadings : Request → Recorded → Meter → Files → Answer → Type 0
+IsWithReadings request recorded meter files =
+    Settles (hourly_text recorded.table) (terms_of recorded.tariff) (metered_of meter) (IsWithMeter request recorded.tariff meter files)
 
 -- the plan with the battery of this file
 abbrev pub Plans : List ℕ → List ℕ → (Storage → Inputs) → Files → Answer → Type 0

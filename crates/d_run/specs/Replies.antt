@@ -6,21 +6,20 @@ use Rattle.d_desk.specs.declared.opened.Direction.TheVariants.{In}
 use Rattle.d_desk.specs.Front.{GainsFront}
 use Rattle.d_desk.specs.Stages.{Opens, OpensSome}
 use Rattle.d_desk.specs.declared.fault.DeskFault.{DeskFault}
-use Rattle.d_model.specs.Storage.{Storage}
+use Rattle.d_batt.specs.Storage.{Storage}
 use Rattle.d_bill.specs.Inputs.{Inputs}
-use Rattle.d_model.specs.Shown.{storage_of}
-use Rattle.d_model.specs.declared.meter.Meter.{Meter}
-use Rattle.d_model.specs.declared.battery.Battery.{Battery}
+use Rattle.d_batt.specs.Shown.{storage_of}
+use Rattle.d_meter.specs.Shown.{metered_of}
+use Rattle.d_meter.specs.declared.meter.Meter.{Meter}
+use Rattle.d_batt.specs.declared.battery.Battery.{Battery}
 use Rattle.d_tariff.specs.Shown.{terms_of}
 use Rattle.d_tariff.specs.declared.tariff.Tariff.{Tariff}
 use Rattle.d_urdb.specs.declared.rule.RuleChoice.{RuleChoice}
-use Rattle.d_table.specs.Table.{kept_rows}
+use Rattle.d_table.specs.Table.{kept_rows, IsRectangular}
 use Rattle.d_urdb.specs.Record.{label_name}
 use Rattle.d_run.specs.Record.{IsRecord}
 use Rattle.d_run.specs.declared.record.Recorded.{Recorded}
-use Rattle.d_run.specs.ReadingsFile.{Hourly, IsHourly}
-use Rattle.d_run.specs.BatteryFile.{IsBatteryFile}
-use Rattle.d_run.specs.Answer.{Answer, IsAnswer, longest_record, longest_file, joined, refused, rows_in, RefusesRecord, RefusesReadings, RefusesBattery, RefusesSchedule, MeansSchedule}
+use Rattle.d_run.specs.Answer.{Answer, IsAnswer, longest_record, longest_file, joined, refused, rows_in, RefusesRecord, RefusesReadings, MeansReadings, RefusesBattery, MeansBattery, RefusesSchedule, MeansSchedule}
 use Rattle.d_run.specs.Runs.{IsAnswered, IsCutShort}
 use Rattle.d_run.specs.declared.reply.Reply.{Reply}
 use Rattle.d_run.specs.declared.fault.Refusal.{Refusal}
@@ -62,6 +61,19 @@ pub record IsRecorded (rows : List (List (List ℕ))) (label : List ℕ) (rule :
 abbrev pub GivesRecord : List (List (List ℕ)) → List ℕ → RuleChoice → Result Recorded Fault → Type 0
 GivesRecord rows label rule result = Gives {T = Recorded} (IsRecorded rows label rule) (RefusesRecord rows label rule) result
 
+-- a table of a file's rows, which have one length, or a refusal where they haven't
+abbrev pub GivesTable : List (List (List ℕ)) → Refusal → Result (List (List (List ℕ))) Fault → Type 0
+GivesTable rows shape result = Gives {T = List (List (List ℕ))} (λ table. (table ≡ rows) × IsRectangular rows)
+    (λ end. (IsRectangular rows → ⊥) × (end ≡ refused shape)) result
+
+-- a month of readings, or the refusal
+abbrev pub GivesReadings : List (List (List ℕ)) → Result Meter Fault → Type 0
+GivesReadings rows result = Gives {T = Meter} (λ meter. MeansReadings rows (metered_of meter)) (RefusesReadings rows) result
+
+-- a battery, or the refusal
+abbrev pub GivesBattery : List (List (List ℕ)) → Result Battery Fault → Type 0
+GivesBattery rows result = Gives {T = Battery} (λ battery. MeansBattery rows (storage_of battery)) (RefusesBattery rows) result
+
 -- the modes of a schedule, or the refusal
 abbrev pub GivesSchedule : Inputs → List (List (List ℕ)) → Result (Vec ℕ Global) Fault → Type 0
 GivesSchedule i rows result = Gives {T = Vec ℕ Global} (λ modes. MeansSchedule i rows modes.items) (RefusesSchedule i rows) result
@@ -92,13 +104,9 @@ abbrev pub EndsAt : Files → List ℕ → ℕ → Refusal → (Answer → Type 
 EndsAt files name limit too_long Refuses end =
     IsTooLong files name limit too_long end ⊎ ((length (bytes_in files name) ≤ limit) × Refuses end)
 
--- a month of readings as plain values
-abbrev pub hourly_of : Meter → Hourly
-hourly_of meter = record { year = meter.month.year; number = meter.month.number; net = meter.net }
-
 -- the problem of a month but for its battery: by this tariff, these readings and this highest flat demand of earlier months
 abbrev pub problem_of : Tariff → Meter → ℤ → Storage → Inputs
-problem_of tariff meter prior = joined (terms_of tariff) (hourly_of meter) prior
+problem_of tariff meter prior = joined (terms_of tariff) (metered_of meter) prior
 
 -- the file's bytes are loaded, or it is above its limit
 abbrev pub LoadStage : List ℕ → ℕ → Refusal → Scene → Scene → Result (Vec ℕ Global) Fault → Type 0
@@ -117,17 +125,15 @@ abbrev pub RecordStage : List ℕ → List ℕ → RuleChoice → Scene → Scen
 RecordStage name label rule = FileStage {T = Recorded} name longest_record LongRecord
     (λ rows recorded. IsRecorded rows label rule recorded) (λ rows. RefusesRecord rows label rule)
 
--- an hourly month of these rows
-abbrev pub IsMeterOf : List (List (List ℕ)) → Meter → Type 0
-IsMeterOf rows meter = (meter.minutes ≡ 60) × IsHourly rows (hourly_of meter)
-
--- the readings file gives an hourly month or a refusal
+-- the readings file gives a month of readings or a refusal
 abbrev pub ReadingsStage : List ℕ → Scene → Scene → Result Meter Fault → Type 0
-ReadingsStage name = FileStage {T = Meter} name longest_file LongReadings IsMeterOf RefusesReadings
+ReadingsStage name =
+    FileStage {T = Meter} name longest_file LongReadings (λ rows meter. MeansReadings rows (metered_of meter)) RefusesReadings
 
 -- the battery file gives a battery or a refusal
 abbrev pub BatteryStage : List ℕ → Scene → Scene → Result Battery Fault → Type 0
-BatteryStage name = FileStage {T = Battery} name longest_file LongBattery (λ rows battery. IsBatteryFile rows (storage_of battery)) RefusesBattery
+BatteryStage name =
+    FileStage {T = Battery} name longest_file LongBattery (λ rows battery. MeansBattery rows (storage_of battery)) RefusesBattery
 
 -- the schedule file gives the modes of its intervals or a refusal
 abbrev pub ScheduleStage : List ℕ → Inputs → Scene → Scene → Result (Vec ℕ Global) Fault → Type 0

@@ -3,25 +3,17 @@
 ghost use Rattle.std.specs.Prelude.{◌≡◌, IfOk, string_bytes};
 ghost use Rattle.d_run.specs.Answer.{refused, refusal_text, refusal_verdict};
 ghost use Rattle.d_run.specs.Replies.{EndsBy};
-ghost use Rattle.d_run.specs.Text.{schedule_fault_text};
+ghost use Rattle.d_run.specs.Text.{meter_fault_text, battery_fault_text, schedule_fault_text};
 
 use crate::reply::Reply;
 use crate::verdict::Verdict;
+use d_batt::BatteryFault;
 use d_bill::ScheduleFault;
+use d_meter::MeterFault;
 use d_num::NoMemory;
 use d_report::line_text;
-use d_table::TableFault;
-use std::alloc::{AllocError, AllocFailed, Global};
+use std::alloc::{AllocError, Global};
 use thiserror::Error;
-
-/// What a reader of one file answers in place of its value.
-#[derive(Clone, Copy)]
-pub enum ReadFault {
-    /// The bytes aren't of the reader's form.
-    Refused,
-    /// Memory was wanted and there was none.
-    Memory,
-}
 
 /// What is refused, in the order in which it is looked at. A record's own refusals are beside these.
 #[derive(Clone, Copy)]
@@ -34,8 +26,8 @@ pub enum Refusal {
     RecordShape(u64),
     /// The readings file is too long.
     LongReadings,
-    /// The readings file is no month of hourly readings.
-    Readings,
+    /// The readings file is no month of readings.
+    Readings(MeterFault),
     /// Some intervals of the month are charged for their highest demand, which isn't planned yet.
     GroupsNotYet,
     /// Some energy period of the month is tiered, which isn't planned yet.
@@ -43,7 +35,7 @@ pub enum Refusal {
     /// The battery file is too long.
     LongBattery,
     /// The battery file is no battery.
-    Battery,
+    Battery(BatteryFault),
     /// The schedule file is too long.
     LongSchedule,
     /// The schedule file is no schedule of the problem.
@@ -60,11 +52,11 @@ impl Refusal {
             Refusal::LongRecord => line_text(alloc, "refused record 0 TooLong", ""),
             Refusal::RecordShape(row) => shape_text(alloc, row),
             Refusal::LongReadings => line_text(alloc, "refused readings 0 TooLong", ""),
-            Refusal::Readings => line_text(alloc, "refused readings 23 NotYet", ""),
+            Refusal::Readings(fault) => readings_text(alloc, fault),
             Refusal::GroupsNotYet => line_text(alloc, "refused record 23 NotYet none 2", ""),
             Refusal::TiersNotYet => line_text(alloc, "refused record 23 NotYet none 3", ""),
             Refusal::LongBattery => line_text(alloc, "refused battery 0 TooLong", ""),
-            Refusal::Battery => line_text(alloc, "refused battery 23 NotYet", ""),
+            Refusal::Battery(fault) => battery_text(alloc, fault),
             Refusal::LongSchedule => line_text(alloc, "refused schedule 0 TooLong", ""),
             Refusal::Schedule(fault) => schedule_text(alloc, fault),
         }
@@ -80,9 +72,9 @@ impl Refusal {
             | Refusal::RecordShape(_)
             | Refusal::GroupsNotYet
             | Refusal::TiersNotYet => Verdict::Record,
-            Refusal::LongReadings | Refusal::Readings => Verdict::Readings,
+            Refusal::LongReadings | Refusal::Readings(_) => Verdict::Readings,
             Refusal::LongBattery
-            | Refusal::Battery
+            | Refusal::Battery(_)
             | Refusal::LongSchedule
             | Refusal::Schedule(_) => Verdict::Battery,
         }
@@ -108,6 +100,55 @@ fn shape_text(alloc: Global, row: u64) -> Result<Vec<u8>, NoMemory>
 {
     let row = format!(in alloc; "{row}")?;
     line_text(alloc, "refused record 0 Shape ", row.as_str())
+}
+
+/// The line of a readings file that is refused so.
+fn readings_text(alloc: Global, fault: MeterFault) -> Result<Vec<u8>, NoMemory>
+    ensures { IfOk result (λ text. text.items ≡ refusal_text (Refusal.Readings fault)) }
+{
+    let fault = meter_fault_text(alloc, fault)?;
+    line_text(alloc, "refused readings ", fault.as_str())
+}
+
+/// The number and the name of a readings file's fault, with the numbers that it names.
+fn meter_fault_text(alloc: Global, fault: MeterFault) -> Result<String, AllocError>
+    ensures { IfOk result (λ text. string_bytes text ≡ meter_fault_text fault) }
+{
+    match fault {
+        MeterFault::Shape => format!(in alloc; "1 Shape"),
+        MeterFault::Start(row) => format!(in alloc; "2 Start {row}"),
+        MeterFault::Order(row) => format!(in alloc; "3 Order {row}"),
+        MeterFault::Step => format!(in alloc; "4 Step"),
+        MeterFault::Count(have, need) => format!(in alloc; "5 Count {have} {need}"),
+        MeterFault::Number(row) => format!(in alloc; "6 Number {row}"),
+        MeterFault::TooLarge(row) => format!(in alloc; "7 TooLarge {row}"),
+        MeterFault::Memory => format!(in alloc; ""),
+    }
+}
+
+/// The line of a battery file that is refused so.
+fn battery_text(alloc: Global, fault: BatteryFault) -> Result<Vec<u8>, NoMemory>
+    ensures { IfOk result (λ text. text.items ≡ refusal_text (Refusal.Battery fault)) }
+{
+    let fault = battery_fault_text(alloc, fault)?;
+    line_text(alloc, "refused battery ", fault.as_str())
+}
+
+/// The number and the name of a battery file's fault, with the row that it names.
+fn battery_fault_text(alloc: Global, fault: BatteryFault) -> Result<String, AllocError>
+    ensures { IfOk result (λ text. string_bytes text ≡ battery_fault_text fault) }
+{
+    match fault {
+        BatteryFault::Shape => format!(in alloc; "1 Shape"),
+        BatteryFault::Unknown(row) => format!(in alloc; "2 Unknown {row}"),
+        BatteryFault::Missing => format!(in alloc; "3 Missing capacity"),
+        BatteryFault::Twice(row) => format!(in alloc; "4 Twice {row}"),
+        BatteryFault::Number(row) => format!(in alloc; "5 Number {row}"),
+        BatteryFault::Range(row) => format!(in alloc; "6 Range {row}"),
+        BatteryFault::NoModes => format!(in alloc; "7 NoModes"),
+        BatteryFault::TooMany(row) => format!(in alloc; "8 TooMany {row}"),
+        BatteryFault::Memory => format!(in alloc; ""),
+    }
 }
 
 /// The line of a schedule file that is refused so.
@@ -142,53 +183,6 @@ pub enum Fault {
     /// Memory was wanted and there was none.
     #[error("out of memory")]
     Memory,
-}
-
-impl From<TableFault> for ReadFault {
-    ghost use Rattle.std.specs.Prelude.{◌≡◌};
-    ghost use Rattle.d_run.specs.Faults.{read_fault_of};
-
-    ghost from_gives = { λ e fault. fault ≡ read_fault_of e };
-
-    fn from(fault: TableFault) -> ReadFault {
-        match fault {
-            TableFault::Shape(_) => ReadFault::Refused,
-            TableFault::Memory => ReadFault::Memory,
-        }
-    }
-}
-
-impl From<AllocError> for ReadFault {
-    ghost use Rattle.std.specs.Prelude.{◌≡◌};
-    ghost use Rattle.d_run.specs.declared.fault.ReadFault.TheVariants.{Memory};
-
-    ghost from_gives = { λ _ fault. fault ≡ Memory };
-
-    fn from(_error: AllocError) -> ReadFault {
-        ReadFault::Memory
-    }
-}
-
-impl<T: Drop> From<AllocFailed<T>> for ReadFault {
-    ghost use Rattle.std.specs.Prelude.{◌≡◌};
-    ghost use Rattle.d_run.specs.declared.fault.ReadFault.TheVariants.{Memory};
-
-    ghost from_gives = { λ _ fault. fault ≡ Memory };
-
-    fn from(_failed: AllocFailed<T>) -> ReadFault {
-        ReadFault::Memory
-    }
-}
-
-impl From<NoMemory> for ReadFault {
-    ghost use Rattle.std.specs.Prelude.{◌≡◌};
-    ghost use Rattle.d_run.specs.declared.fault.ReadFault.TheVariants.{Memory};
-
-    ghost from_gives = { λ _ fault. fault ≡ Memory };
-
-    fn from(_error: NoMemory) -> ReadFault {
-        ReadFault::Memory
-    }
 }
 
 impl From<AllocError> for Fault {

@@ -2,14 +2,17 @@
 
 ghost use Rattle.std.specs.Prelude.{◌≡◌, IfOk, OnOk, IfErr};
 ghost use Rattle.d_bill.specs.Law.{IsPlain};
-ghost use Rattle.d_model.specs.Shown.{storage_of};
+ghost use Rattle.d_tariff.specs.Shown.{terms_of};
+ghost use Rattle.d_meter.specs.Shown.{metered_of};
+ghost use Rattle.d_batt.specs.Shown.{storage_of};
+ghost use Rattle.d_bill.specs.Join.{IsSettled};
 ghost use Rattle.d_run.specs.Answer.{IsPlannable, no_storage};
 ghost use Rattle.d_run.specs.Replies.{EndsBy, problem_of};
 
-use crate::draft::WIDE_LIMIT;
 use crate::fault::{Fault, Refusal};
 use d_bill::Problem;
-use d_model::{Battery, Meter, Mode, ModeList, Name};
+use d_batt::{Battery, MOST_LIMIT, Mode, ModeList, Name};
+use d_meter::Meter;
 use d_num::{NoMemory, Wh};
 use d_tariff::Tariff;
 use d_words::Request;
@@ -23,7 +26,7 @@ pub fn join_month(
     meter: &Meter,
     battery: &Battery,
 ) -> Result<Problem, NoMemory>
-    requires { meter.now.minutes ≡ 60 }
+    requires { IsSettled (terms_of tariff.now) (metered_of meter.now) }
     ensures { IfOk result (λ problem. problem ≡ problem_of tariff.now meter.now request.now.prior_peak (storage_of battery.now)) }
 {
     Problem::join(alloc, tariff, meter, battery, request.prior_peak)
@@ -37,7 +40,7 @@ pub fn check_plannable(
     tariff: &Tariff,
     meter: &Meter,
 ) -> Result<(), Fault>
-    requires { meter.now.minutes ≡ 60 }
+    requires { IsSettled (terms_of tariff.now) (metered_of meter.now) }
     ensures plain { OnOk result (IsPlain (problem_of tariff.now meter.now request.now.prior_peak no_storage)) }
     ensures refused { IfErr result (EndsBy (IsPlannable (problem_of tariff.now meter.now request.now.prior_peak no_storage) (λ _. ⊥))) }
 {
@@ -77,8 +80,8 @@ pub fn no_battery(alloc: Global) -> Result<Battery, NoMemory>
         floor: 0,
         start: 0,
         end: 0,
-        max_import: Wh::new(WIDE_LIMIT).unwrap(),
-        max_export: Wh::new(WIDE_LIMIT).unwrap(),
+        max_import: Wh::new(MOST_LIMIT).unwrap(),
+        max_export: Wh::new(MOST_LIMIT).unwrap(),
         modes,
     })
 }

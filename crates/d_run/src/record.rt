@@ -2,7 +2,7 @@
 
 ghost use Rattle.std.specs.Prelude.{◌≡◌};
 ghost use Rattle.d_table.specs.Table.{rows_of};
-ghost use Rattle.d_run.specs.RecordText.{record_text};
+ghost use Rattle.d_run.specs.RecordText.{record_text, hourly_text};
 ghost use Rattle.d_run.specs.Answer.{says};
 ghost use Rattle.d_run.specs.Replies.{EndsBy, GivesRecord};
 ghost use Rattle.d_run.specs.declared.verdict.Verdict.TheVariants.{Record};
@@ -14,7 +14,7 @@ use crate::verdict::Verdict;
 use d_num::NoMemory;
 use d_table::{Table, TableFault, read_where};
 use d_tariff::Tariff;
-use d_urdb::{RecordFault, Refused, RuleChoice};
+use d_urdb::{RecordFault, Refused, RuleChoice, hourly_refusal};
 use std::alloc::Global;
 
 /// A record of a file and what it says.
@@ -47,6 +47,13 @@ pub fn read_record(
         Err(RecordFault::Refused(refused)) => Err(record_fault(alloc, &table, refused)),
         Err(RecordFault::Memory) => Err(Fault::Memory),
     }
+}
+
+/// The fault of the record of a table whose energy is settled hour by hour, where there isn't a reading an hour.
+pub fn hourly_fault(alloc: Global, table: &Table) -> Fault
+    ensures { EndsBy (λ end. end ≡ says Record (hourly_text table.now)) result }
+{
+    record_fault(alloc, table, hourly_refusal(table))
 }
 
 /// The fault of a record that is refused so.

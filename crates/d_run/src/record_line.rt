@@ -3,11 +3,11 @@
 ghost use Rattle.std.specs.Prelude.{◌≡◌, ◌∷◌, ◌++◌, IfOk, OnOk, string_bytes, codes};
 ghost use Rattle.std.specs.Fmt.{decimal};
 ghost use Rattle.d_table.specs.Table.{row_at, cell_in};
-ghost use Rattle.d_run.specs.Text.{behind_blank};
+ghost use Rattle.d_report.specs.Shown.{behind_blank};
 ghost use Rattle.d_run.specs.RecordText.{record_text, column_text};
 ghost use Rattle.d_urdb.specs.RefusalNames.{refusal_name};
 
-use crate::lines::{put_behind_blank, put_shown};
+use d_report::{put_behind_blank, put_shown};
 use d_num::NoMemory;
 use d_table::Table;
 use d_urdb::{Refused, refusal_name};

@@ -4,8 +4,8 @@ ghost use Rattle.d_table.specs.Table.{rows_of};
 ghost use Rattle.d_run.specs.Replies.{GivesSchedule};
 
 use crate::fault::{Fault, Refusal};
+use crate::table::read_table;
 use d_bill::{Problem, ScheduleFault, read_schedule};
-use d_table::{TableFault, read_table};
 use std::alloc::Global;
 
 /// The modes of the schedule in the file, one an interval, as numbers of the battery's modes; or the refusal by the first check that
@@ -13,13 +13,7 @@ use std::alloc::Global;
 pub fn read_modes(alloc: Global, bytes: &[u8], problem: &Problem) -> Result<Vec<u8>, Fault>
     ensures { GivesSchedule problem.now (rows_of bytes.now) result }
 {
-    let table = match read_table(alloc, bytes) {
-        Ok(table) => table,
-        Err(TableFault::Shape(_)) => {
-            return Err(Refusal::Schedule(ScheduleFault::Shape).fault(alloc));
-        }
-        Err(TableFault::Memory) => return Err(Fault::Memory),
-    };
+    let table = read_table(alloc, bytes, Refusal::Schedule(ScheduleFault::Shape))?;
     let mut modes = vec![in alloc; 0u8; problem.intervals() as usize]?;
     match read_schedule(&table, problem, modes.as_mut_slice()) {
         Ok(()) => Ok(modes),

@@ -45,6 +45,10 @@ is_hourly row AsRecorded = says_rule row (codes "net billing hourly")
 abbrev pub rule_refusal : Row → Cause → Refused
 rule_refusal row cause_ = refusal row.header cause_ (column_of rule_name row.header) 0
 
+-- 15: energy is settled hour by hour, and there isn't a reading an hour; the row that has the label is the first below the header
+abbrev pub hourly_refusal : List (List (List ℕ)) → Refused
+hourly_refusal rows = rule_refusal (record { header = row_at rows 0; cells = row_at rows 1 }) cause.HourlyRule
+
 -- 13, 14 and 21: rules that are refused by name, and texts that are no rule; nothing where net billing is chosen in the rule's place
 abbrev pub rule_refusals : Row → RuleChoice → List (Option Refused)
 rule_refusals row NetBilling = []

@@ -33,4 +33,4 @@ pub use cause::refusal_name;
 pub use fault::{RecordFault, Refused};
 pub use law::{accepts_tariffs, charges_as_recorded, reads_once};
 pub use record::read_record;
-pub use rule::RuleChoice;
+pub use rule::{RuleChoice, hourly_refusal};

@@ -10,7 +10,7 @@ ghost use Rattle.d_columns.specs.Tiers.{named_cell, is_filled};
 use crate::cause::Cause;
 use crate::fault::Refused;
 use crate::row::Record;
-use d_table::is_named;
+use d_table::{Table, is_named};
 
 /// Which rule a record is planned by.
 #[derive(Clone, Copy)]
@@ -19,6 +19,18 @@ pub enum RuleChoice {
     AsRecorded,
     /// Net billing by the interval, whatever it says.
     NetBilling,
+}
+
+/// The refusal of the record of a table whose energy is settled hour by hour, where there isn't a reading an hour. It names the column of the
+/// rule. Who knows the readings tests for it: the record by itself isn't refused.
+pub fn hourly_refusal(table: &Table) -> Refused
+    ensures { result ≡ spec.hourly_refusal table.now }
+{
+    Refused {
+        number: Cause::HourlyRule.number(),
+        column: table.position(b"dgrules").unwrap_or(table.columns()),
+        detail: 0,
+    }
 }
 
 impl<'a> Record<'a> {

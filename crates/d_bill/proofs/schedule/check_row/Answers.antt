@@ -1,15 +1,7 @@
 use Rattle.std.proofs.Common.{◌∙◌, ap, not, rules, length}
 use Rattle.d_bill.specs.ScheduleFile.{HasStart}
-use Rattle.d_bill.proofs.ScheduleRows.{begins_within, no_mode, mode_found}
+use Rattle.d_bill.proofs.ScheduleRows.{no_mode, mode_found}
 use Rattle.d_bill.proofs.schedule.check_row.Goals as goal
-
-pub is_start-requires-clause-minutes : goal.is_start-requires-clause-minutes
-is_start-requires-clause-minutes c = rw c.minutes.ensures c.month.ensures.range.minutes
-
-pub is_start-requires-clause-interval : goal.is_start-requires-clause-interval
-is_start-requires-clause-interval c =
-    let fine = c.month.ensures.range in
-    rw (c.minutes.ensures, c.month.ensures.year, c.month.ensures.number) (begins_within c.args.t (length c.args.problem.now.net) c.args.problem.now.minutes _ c.requires.there fine.whole fine.minutes)
 
 pub returns-then-is_none-clause-fault : goal.returns-then-is_none-clause-fault
 returns-then-is_none-clause-fault c =

@@ -1,4 +1,0 @@
-mod Moments
-mod Digits
-mod StartParts
-pub mod Deciding

@@ -1,4 +1,0 @@
-pub mod Storage
-pub mod Readings
-pub mod Shown
-pub mod Starts
