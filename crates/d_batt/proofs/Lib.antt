@@ -1,2 +1,5 @@
 mod Readers
 mod Names
+mod Order
+mod RowFacts
+mod LevelFacts

@@ -1,0 +1,2 @@
+-- What levels are refused for.
+use Rattle.std.proofs.Common.{◌≡◌}
