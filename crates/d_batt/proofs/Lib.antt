@@ -3,3 +3,4 @@ mod Names
 mod Order
 mod RowFacts
 mod LevelFacts
+mod Accepted

@@ -1,5 +1,5 @@
 -- What the rows of a battery file are refused for.
-use Rattle.std.proofs.Common.{◌≡◌, inl, inr, ℕ, suc, ◌+◌, ◌<◌, ◌^◌, Bool, true, false, not, ℤ, List, [], ◌∷◌, ◌++◌, length, codes, nat_le, Option, None, Some, is_some, Result, Ok, Err, refl, sym, ap, ◌∙◌, arith, subst}
+use Rattle.std.proofs.Common.{◌≡◌, inl, inr, ℕ, suc, ◌+◌, ◌<◌, ◌^◌, Bool, true, false, not, ℤ, List, [], ◌∷◌, ◌++◌, length, codes, nat_le, Option, None, Some, is_some, Result, Ok, Err, OnOk, refl, sym, ap, ◌∙◌, arith, subst}
 use Rattle.std.specs.Option.{is_none}
 use Rattle.d_text.specs.declared.decimal.DecimalFault.{DecimalFault}
 use Rattle.d_list.specs.Firsts.{first_of, each, when}
@@ -37,7 +37,7 @@ here_named rows row count kind name test below is holds before =
 -- ---- a row that sets a number
 
 -- what a test says of a value
-none_is : (value : Option ℤ) (test : Bool) → is_some value ≡ not test → is_none value ≡ test
+pub none_is : (value : Option ℤ) (test : Bool) → is_some value ≡ not test → is_none value ≡ test
 none_is value true is = ap not is
 none_is value false is = ap not is
 
@@ -194,6 +194,15 @@ pub modes_more : (rows : List (List (List ℕ))) (row : ℕ) (list : List Mode) 
     → Reads (λ reader. with_mode reader rows row) list → Reads (λ reader. modes reader rows (row + 1)) list
 modes_more rows row list is list_is reader are = list_is reader are ∙ sym (modes_next reader rows row HasMode is)
 
-pub no_modes : (rows : List (List (List ℕ))) → Reads (λ reader. modes reader rows 0) []
+pub no_modes : (rows : List (List (List ℕ))) (list : List Mode) → list ≡ [] → Reads (λ reader. modes reader rows 0) list
 unfolding modes
-no_modes rows reader are = refl
+no_modes rows list none reader are = none
+
+-- what is so where a check goes through
+pub where_ok : (A F P : Type 0) (result : Result A F) → P → OnOk result P
+where_ok A F P (Ok value) so = so
+where_ok A F P (Err fault) so = tt
+
+pub ok_since : (A F P Q : Type 0) (result : Result A F) → (P → Q) → OnOk result P → OnOk result Q
+ok_since A F P Q (Ok value) since so = since so
+ok_since A F P Q (Err fault) since so = tt

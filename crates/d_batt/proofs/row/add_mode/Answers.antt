@@ -1,4 +1,5 @@
 use Rattle.std.proofs.Common.{◌≡◌, arith, inr, nat_le, true, false, length, sym, ◌∙◌, ap, [], ◌∷◌}
+use Rattle.std.specs.Bool.{⊤}
 use Rattle.std.proofs.lemmas.Result.{err_from_is_err_and}
 use Rattle.std.proofs.lemmas.Bool.Decides.{nat_tests}
 use Rattle.d_list.specs.Firsts.{when}
@@ -12,7 +13,7 @@ use Rattle.d_batt.proofs.row.add_mode.Goals as goal
 pub returns-in_err-mode-clause-refusals : goal.returns-in_err-mode-clause-refusals
 returns-in_err-mode-clause-refusals c =
     let p = err_from_is_err_and c.from_residual.result c.from_residual.ensures.1 in
-    rw (p.1, p.2) (first_fails Mode _ (λ reader. number_refusals reader c.args.table.now c.args.row)
+    rw (p.1, p.2) (first_fails Mode ⊤ (λ reader. number_refusals reader c.args.table.now c.args.row)
     (λ reader. when (nat_le 64 (length (modes reader c.args.table.now c.args.row))) (TooMany c.args.row) ∷ []) c.in_err-mode.field-0.0 c.in_err-mode.ensures.refusals)
 
 pub returns-then-len-ge-MOST_MODES-clause-refusals : goal.returns-then-len-ge-MOST_MODES-clause-refusals
