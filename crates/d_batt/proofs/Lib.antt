@@ -1,2 +1,6 @@
 mod Readers
 mod Names
+mod Order
+mod RowFacts
+mod LevelFacts
+mod Accepted

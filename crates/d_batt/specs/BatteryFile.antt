@@ -1,6 +1,6 @@
 -- A battery file: why it is refused, and the battery that it is. Its form, its ranges, what stands for an absent number, and the order of
 -- the refusals are our own.
-use Rattle.std.specs.Prelude.{◌≡◌, ℕ, zero, suc, ◌-◌, ◌^◌, Bool, ◌||◌, ◌==◌, nat_lt, nat_le, ℤ, pos, neg_ℤ, int_le, unsigned_abs, List, [], ◌∷◌, ◌++◌, length, map, bytes_eq, codes, Option, None, Some, is_some, unwrap_or, Result, Ok, Err, if◌then◌else◌}
+use Rattle.std.specs.Prelude.{◌≡◌, ℕ, zero, suc, ◌-◌, ◌^◌, Bool, ◌||◌, ◌==◌, nat_lt, nat_le, ℤ, pos, unsigned_abs, List, [], ◌∷◌, ◌++◌, length, map, bytes_eq, codes, Option, None, Some, is_some, unwrap_or, Result, Ok, Err, if◌then◌else◌}
 use Rattle.std.specs.Option.{is_none}
 use Rattle.std.specs.Cmp.Lexicographic.{pointwise}
 use Rattle.std.specs.Str.{str_to_ascii_lowercase}
@@ -14,8 +14,8 @@ use Rattle.d_batt.specs.declared.setting.Setting.{Setting}
 use Rattle.d_batt.specs.declared.setting.Setting.TheVariants.{Capacity, Floor, Start, End, MaxImport, MaxExport}
 use Rattle.d_batt.specs.declared.kind.Kind.{Kind}
 use Rattle.d_batt.specs.declared.kind.Kind.TheVariants.{Sets, HasMode}
-use Rattle.d_batt.specs.Kinds.{setting_name, setting_limit, kind_of, cells_at, first_named}
-use Rattle.d_batt.specs.Numbers.{Reader, IsReader, level_number, is_unread, within}
+use Rattle.d_batt.specs.Kinds.{setting_name, setting_within, kind_of, cells_at, first_named}
+use Rattle.d_batt.specs.Numbers.{Reader, IsReader, level_number, is_unread, change_within, grid_within, level_within}
 use Rattle.d_batt.specs.Storage.{Storage}
 
 -- what a row is
@@ -26,7 +26,7 @@ kind_in cells = kind_of (cell_in cells 0) (cell_in cells 1)
 
 -- its number, where it is in the setting's range
 abbrev pub set_value : Reader → List (List ℕ) → Setting → Option ℤ
-set_value reader cells setting = within (pos 0) (pos (setting_limit setting)) (reader (cell_in cells 2))
+set_value reader cells setting = setting_within setting (reader (cell_in cells 2))
 
 -- why it is refused, in order
 abbrev pub setting_refusals : Reader → List (List (List ℕ)) → ℕ → Setting → List (Option BatteryFault)
@@ -38,17 +38,16 @@ setting_refusals reader rows row setting =
 -- ---- a row that has a mode
 
 -- the mode of these numbers, where its levels are in order
-abbrev pub mode_at : List ℕ → Option ℤ → Option ℤ → Option ℤ → Option ℤ → Option Mode
+abbrev pub mode_at : List ℕ → Option ℤ → Option ℤ → Option ℕ → Option ℕ → Option Mode
 mode_at name (Some change) (Some grid) (Some low) (Some high) =
-    if int_le low high then Some (record { name = name; change = change; grid = grid; low = unsigned_abs low; high = unsigned_abs high }) else None
+    if nat_lt high low then None else Some (record { name = name; change = change; grid = grid; low = low; high = high })
 mode_at name change grid low high = None
 
 -- the mode of a name and numbers, where all are in range: it changes the battery by at most 255 levels, it adds at most 10^9 Wh in size to
 -- the net reading, and it begins from a level to a level that isn't below it, both from 0 to 255
 abbrev pub mode_of : List ℕ → Result ℤ DecimalFault → Result ℤ DecimalFault → Result ℤ DecimalFault → Result ℤ DecimalFault → Option Mode
 mode_of name change grid low high =
-    mode_at name (within (neg_ℤ (pos 255)) (pos 255) change) (within (neg_ℤ (pos (10 ^ 9))) (pos (10 ^ 9)) grid) (within (pos 0) (pos 255) low)
-    (within (pos 0) (pos 255) high)
+    mode_at name (change_within change) (grid_within grid) (level_within low) (level_within high)
 
 -- the mode of a row; low and high are 0 and 255 where their cells are empty
 abbrev pub mode_in : Reader → List (List ℕ) → Option Mode
@@ -56,11 +55,14 @@ mode_in reader cells =
     mode_of (cell_in cells 1) (reader (cell_in cells 2)) (reader (cell_in cells 3)) (level_number reader 0 (cell_in cells 4))
     (level_number reader 255 (cell_in cells 5))
 
--- whether one of its numbers can't be read
+-- whether one of these numbers can't be read
+abbrev pub are_unread : Result ℤ DecimalFault → Result ℤ DecimalFault → Result ℤ DecimalFault → Result ℤ DecimalFault → Bool
+are_unread change grid low high = is_unread change || is_unread grid || is_unread low || is_unread high
+
+-- whether one of a row's numbers can't be read
 abbrev pub has_unread : Reader → List (List ℕ) → Bool
 has_unread reader cells =
-    is_unread (reader (cell_in cells 2)) || is_unread (reader (cell_in cells 3)) || is_unread (level_number reader 0 (cell_in cells 4))
-    || is_unread (level_number reader 255 (cell_in cells 5))
+    are_unread (reader (cell_in cells 2)) (reader (cell_in cells 3)) (level_number reader 0 (cell_in cells 4)) (level_number reader 255 (cell_in cells 5))
 
 -- the modes of so many data rows, with that of one row more
 abbrev pub listed : Option Mode → List Mode

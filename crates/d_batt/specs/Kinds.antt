@@ -1,8 +1,10 @@
 -- What the rows of a battery file may be, by their first two cells. The names and their ranges are our own.
-use Rattle.std.specs.Prelude.{ℕ, ◌+◌, ◌^◌, Bool, ◌&&◌, ◌||◌, ◌==◌, nat_le, List, [], ◌∷◌, length, bytes_eq, codes, Option, None, Some, option_map, if◌then◌else◌}
+use Rattle.std.specs.Prelude.{ℕ, ◌+◌, ◌^◌, ℤ, pos, Result, Bool, ◌&&◌, ◌||◌, ◌==◌, nat_le, List, [], ◌∷◌, length, bytes_eq, codes, Option, None, Some, option_map, if◌then◌else◌}
 use Rattle.std.specs.List.{list_all}
 use Rattle.d_list.specs.Firsts.{first_of, each, when}
 use Rattle.d_table.specs.Table.{row_at, cell_in}
+use Rattle.d_text.specs.declared.decimal.DecimalFault.{DecimalFault}
+use Rattle.d_batt.specs.Numbers.{within}
 use Rattle.d_batt.specs.declared.setting.Setting.{Setting}
 use Rattle.d_batt.specs.declared.setting.Setting.TheVariants.{Capacity, Floor, Start, End, MaxImport, MaxExport}
 use Rattle.d_batt.specs.declared.kind.Kind.{Kind}
@@ -25,6 +27,10 @@ setting_limit Start = 255
 setting_limit End = 255
 setting_limit MaxImport = 10 ^ 10
 setting_limit MaxExport = 10 ^ 10
+
+-- a number that was read, where it is in the setting's range
+abbrev pub setting_within : Setting → Result ℤ DecimalFault → Option ℤ
+setting_within setting number = within (pos 0) (pos (setting_limit setting)) number
 
 -- the setting of that name
 abbrev pub setting_of : List ℕ → Option Setting

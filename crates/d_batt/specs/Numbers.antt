@@ -1,5 +1,5 @@
 -- How the numbers of a battery file are read: each in one way. Their form and their greatest size are our own.
-use Rattle.std.specs.Prelude.{◌≡◌, ℕ, ◌^◌, ℤ, pos, Bool, true, false, ◌&&◌, int_le, List, [], ◌∷◌, Option, None, Some, Result, Ok, Err, if◌then◌else◌}
+use Rattle.std.specs.Prelude.{◌≡◌, ℕ, ◌^◌, ℤ, pos, neg_ℤ, unsigned_abs, Bool, true, false, ◌&&◌, int_le, List, [], ◌∷◌, Option, None, Some, option_map, Result, Ok, Err, if◌then◌else◌}
 use Rattle.d_text.specs.Fault.{IsDecimalOf, IsDecimalFault}
 use Rattle.d_text.specs.declared.decimal.DecimalFault.{DecimalFault}
 use Rattle.d_text.specs.declared.decimal.DecimalFault.TheVariants.{Empty, Form, TooLarge, TooFine}
@@ -38,6 +38,18 @@ is_unread (Err TooFine) = true
 abbrev pub within : ℤ → ℤ → Result ℤ DecimalFault → Option ℤ
 within least most (Ok number) = if int_le least number && int_le number most then Some number else None
 within least most (Err fault) = None
+
+-- a mode's change in levels, where it is at most 255 in size
+abbrev pub change_within : Result ℤ DecimalFault → Option ℤ
+change_within number = within (neg_ℤ (pos 255)) (pos 255) number
+
+-- what a mode adds to the net reading, where that is at most 10^9 Wh in size
+abbrev pub grid_within : Result ℤ DecimalFault → Option ℤ
+grid_within number = within (neg_ℤ (pos (10 ^ 9))) (pos (10 ^ 9)) number
+
+-- a level, where it is from 0 to 255
+abbrev pub level_within : Result ℤ DecimalFault → Option ℕ
+level_within number = option_map unsigned_abs (within (pos 0) (pos 255) number)
 
 -- there is one way to read all cells, and no other
 pub record HasOneReader : Type 0 where

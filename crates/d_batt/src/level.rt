@@ -11,9 +11,9 @@ ghost use Rattle.d_batt.specs.Numbers.{Reads};
 
 use crate::battery::MOST_LIMIT;
 use crate::fault::BatteryFault;
-use crate::number::{read_whole, within};
+use crate::number::read_whole;
 use crate::row::find_row;
-use crate::setting::Setting;
+use crate::setting::{Setting, setting_within};
 use d_num::Wh;
 use d_table::Table;
 
@@ -84,7 +84,7 @@ fn value_of(table: &Table, setting: Setting) -> Option<i64>
     ensures range { IfSome result (IsUpTo (setting_limit setting)) }
 {
     let row = setting_row(table, setting)?;
-    within(read_whole(table.cell(row, 2)), 0, setting.limit())
+    setting_within(read_whole(table.cell(row, 2)), setting)
 }
 
 /// A level, or the one that stands for it where no row sets it.

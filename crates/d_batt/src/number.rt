@@ -4,6 +4,7 @@ ghost use Rattle.std.specs.Prelude.{◌≡◌, ◌^◌, ◌≤◌, ◌≤ℤ◌,
 ghost use Rattle.d_num.specs.Amount.{IsWithin};
 ghost use Rattle.d_batt.specs.Numbers as spec;
 
+use d_num::Wh;
 use d_text::{DecimalFault, read_decimal};
 
 // The greatest size of a number.
@@ -54,4 +55,28 @@ pub(crate) fn within(number: Result<i64, DecimalFault>, least: i64, most: i64) -
         }
         Err(_) => None,
     }
+}
+
+/// A change in levels that was read, where it is at most 255 in size.
+pub(crate) fn change_within(number: Result<i64, DecimalFault>) -> Option<i16>
+    ensures { result ≡ spec.change_within number }
+{
+    let change = within(number, -255, 255)?;
+    Some(change as i16)
+}
+
+/// What a mode adds to the net reading, where that is at most 10^9 Wh in size.
+pub(crate) fn grid_within(number: Result<i64, DecimalFault>) -> Option<Wh>
+    ensures { result ≡ spec.grid_within number }
+{
+    let grid = within(number, -1_000_000_000, 1_000_000_000)?;
+    Wh::new(grid)
+}
+
+/// A level that was read, where it is from 0 to 255.
+pub(crate) fn level_within(number: Result<i64, DecimalFault>) -> Option<u8>
+    ensures { result ≡ spec.level_within number }
+{
+    let level = within(number, 0, 255)?;
+    Some(level as u8)
 }

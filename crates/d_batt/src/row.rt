@@ -4,16 +4,17 @@ ghost use Rattle.std.specs.Prelude.{◌≡◌, ◌+◌, ◌-◌, ◌<◌, ◌≤
 ghost use Rattle.d_table.specs.Table.{row_at, cell_in};
 ghost use Rattle.d_batt.specs.BatteryFile as spec;
 ghost use Rattle.d_batt.specs.Checks.{Checks};
-ghost use Rattle.d_batt.specs.Kinds.{is_mode_name, first_named, cells_at};
+ghost use Rattle.d_batt.specs.Kinds.{is_mode_name, is_named, first_named, cells_at};
 ghost use Rattle.d_batt.specs.Numbers.{Reads};
 
 use crate::fault::BatteryFault;
 use crate::kind::{Kind, kind_of};
 use crate::mode::{Mode, ModeList};
 use crate::name::Name;
-use crate::number::{is_unread, read_level, read_whole, within};
-use crate::setting::Setting;
-use d_num::Wh;
+use crate::number::{
+    change_within, grid_within, is_unread, level_within, read_level, read_whole,
+};
+use crate::setting::{Setting, setting_within};
 use d_table::Table;
 use d_text::DecimalFault;
 use std::alloc::Global;
@@ -43,13 +44,13 @@ fn read_row(table: &Table, row: usize, modes: &mut ModeList) -> Result<(), Batte
 {
     let kind = table.cell(row, 0);
     let name = table.cell(row, 1);
-    let Some(is) = kind_of(kind, name) else {
+    let Some(says) = kind_of(kind, name) else {
         return Err(BatteryFault::Unknown(row as u64));
     };
     if find_row(table, row, kind, name).is_some() {
         return Err(BatteryFault::Twice(row as u64));
     }
-    match is {
+    match says {
         Kind::Sets(setting) => check_setting(table, row, setting),
         Kind::HasMode => add_mode(table, row, modes),
     }
@@ -63,11 +64,20 @@ pub(crate) fn find_row(table: &Table, count: usize, kind: &[u8], name: &[u8]) ->
     ensures within { IfSome result (λ row. row < count) }
 {
     for row in 0..count {
-        if table.cell(row, 0) == kind && table.cell(row, 1) == name {
+        if has_name(table, row, kind, name) {
             return Some(row);
         }
     }
     None
+}
+
+/// Whether a row has this kind and name.
+fn has_name(table: &Table, row: usize, kind: &[u8], name: &[u8]) -> bool
+    requires row { row + 1 < length table.now }
+    requires columns { length (row_at table.now 0) ≡ 6 }
+    ensures { result ≡ is_named kind.now name.now (cells_at table.now row) }
+{
+    table.cell(row, 0) == kind && table.cell(row, 1) == name
 }
 
 /// Tests the number of a row that sets it.
@@ -80,7 +90,7 @@ fn check_setting(table: &Table, row: usize, setting: Setting) -> Result<(), Batt
     if is_unread(number) {
         return Err(BatteryFault::Number(row as u64));
     }
-    if within(number, 0, setting.limit()).is_none() {
+    if setting_within(number, setting).is_none() {
         return Err(BatteryFault::Range(row as u64));
     }
     Ok(())
@@ -115,13 +125,25 @@ fn read_mode(table: &Table, row: usize) -> Result<Mode, BatteryFault>
     let grid = read_whole(table.cell(row, 3));
     let low = read_level(table.cell(row, 4), 0);
     let high = read_level(table.cell(row, 5), 255);
-    if is_unread(change) || is_unread(grid) || is_unread(low) || is_unread(high) {
+    if are_unread(change, grid, low, high) {
         return Err(BatteryFault::Number(row as u64));
     }
     match mode_of(table.cell(row, 1), change, grid, low, high) {
         Some(mode) => Ok(mode),
         None => Err(BatteryFault::Range(row as u64)),
     }
+}
+
+/// Whether one of the numbers of a mode can't be read.
+fn are_unread(
+    change: Result<i64, DecimalFault>,
+    grid: Result<i64, DecimalFault>,
+    low: Result<i64, DecimalFault>,
+    high: Result<i64, DecimalFault>,
+) -> bool
+    ensures { result ≡ spec.are_unread change grid low high }
+{
+    is_unread(change) || is_unread(grid) || is_unread(low) || is_unread(high)
 }
 
 /// The mode of a name and numbers, or None where a number is out of its range.
@@ -135,18 +157,19 @@ fn mode_of(
     requires { is_mode_name name.now ≡ true }
     ensures { result ≡ spec.mode_of name.now change grid low high }
 {
-    let change = within(change, -255, 255)?;
-    let grid = within(grid, -1_000_000_000, 1_000_000_000)?;
-    let low = within(low, 0, 255)?;
-    let high = within(high, 0, 255)?;
+    let change = change_within(change)?;
+    let grid = grid_within(grid)?;
+    let low = level_within(low)?;
+    let high = level_within(high)?;
     if low > high {
         return None;
     }
+    let name = Name::new(name)?;
     Some(Mode {
-        name: Name::new(name)?,
-        change: change as i16,
-        grid: Wh::new(grid)?,
-        low: low as u8,
-        high: high as u8,
+        name,
+        change,
+        grid,
+        low,
+        high,
     })
 }

@@ -1,9 +1,12 @@
 //! What rows of a battery file may set.
 
-ghost use Rattle.std.specs.Prelude.{◌≡◌, pos, bytes_eq};
+ghost use Rattle.std.specs.Prelude.{◌≡◌, ◌^◌, pos, bytes_eq, IfSome};
+ghost use Rattle.d_num.specs.Amount.{IsUpTo};
 ghost use Rattle.d_batt.specs.Kinds as spec;
 
 use crate::battery::MOST_LIMIT;
+use crate::number::within;
+use d_text::DecimalFault;
 
 /// A number of the battery that a row may set.
 #[derive(Clone, Copy)]
@@ -39,13 +42,22 @@ impl Setting {
 
     /// Its greatest value: a level, or energy in Wh. The least is 0.
     pub(crate) fn limit(self) -> i64
-        ensures { result ≡ pos (spec.setting_limit self) }
+        ensures value { result ≡ pos (spec.setting_limit self) }
+        ensures range { IsUpTo (10 ^ 10) result }
     {
         match self {
             Setting::Capacity | Setting::Floor | Setting::Start | Setting::End => 255,
             Setting::MaxImport | Setting::MaxExport => MOST_LIMIT,
         }
     }
+}
+
+/// A number that was read, where it is in the setting's range.
+pub(crate) fn setting_within(number: Result<i64, DecimalFault>, setting: Setting) -> Option<i64>
+    ensures value { result ≡ spec.setting_within setting number }
+    ensures range { IfSome result (IsUpTo (spec.setting_limit setting)) }
+{
+    within(number, 0, setting.limit())
 }
 
 /// The setting of that name, or None where there is none.

@@ -1,0 +1,48 @@
+use Rattle.std.proofs.Common.{◌∙◌, ◌≡◌, ◌⊎◌, inl, inr, ℕ, Bool, Option, ℤ, subst, sym, ap, true}
+use Rattle.d_batt.specs.declared.fault.BatteryFault.{BatteryFault}
+use Rattle.d_batt.specs.Checks.{Refuses}
+use Rattle.d_batt.specs.BatteryFile.{level_refusals}
+use Rattle.d_batt.proofs.RowFacts.{none_is}
+use Rattle.d_batt.proofs.LevelFacts.{no_capacity, floor_above, start_outside, end_above, levels_pass, start_too, end_too}
+use Rattle.d_batt.proofs.level.read_levels.Goals as goal
+
+pub returns-then-is_none-clause-refusals : goal.returns-then-is_none-clause-refusals
+returns-then-is_none-clause-refusals c =
+    inr (no_capacity c.args.table.now c.value_of.result c.value_of.ensures.value (none_is c.value_of.result c.is_none.result c.is_none.ensures ∙ c.if-is_none.true))
+
+pub returns-then-floor-capacity-clause-refusals : goal.returns-then-floor-capacity-clause-refusals
+returns-then-floor-capacity-clause-refusals c =
+    inr (subst (Refuses (λ reader. level_refusals reader c.args.table.now)) (sym c.out_of_range.ensures)
+    (floor_above c.args.table.now c.value_of.result c.level-capacity.result c.level-floor.result c.level-start.result c.level-end.result
+    c.value_of.ensures.value c.level-capacity.ensures c.level-floor.ensures c.level-start.ensures c.level-end.ensures
+    (none_is c.value_of.result c.is_none.result c.is_none.ensures ∙ c.if-is_none.false) c.if-floor-capacity.true))
+
+pub returns-then-start-floor-clause-refusals : goal.returns-then-start-floor-clause-refusals
+returns-then-start-floor-clause-refusals c =
+    inr (subst (Refuses (λ reader. level_refusals reader c.args.table.now)) (sym c.out_of_range-then-start-floor.ensures)
+    (start_outside c.args.table.now c.value_of.result c.level-capacity.result c.level-floor.result c.level-start.result c.level-end.result
+    c.value_of.ensures.value c.level-capacity.ensures c.level-floor.ensures c.level-start.ensures c.level-end.ensures
+    (none_is c.value_of.result c.is_none.result c.is_none.ensures ∙ c.if-is_none.false) c.if-floor-capacity.false c.then-start-floor.either))
+
+pub returns-then-end-capacity-clause-refusals : goal.returns-then-end-capacity-clause-refusals
+returns-then-end-capacity-clause-refusals c =
+    inr (subst (Refuses (λ reader. level_refusals reader c.args.table.now)) (sym c.out_of_range-then-end-capacity.ensures)
+    (end_above c.args.table.now c.value_of.result c.level-capacity.result c.level-floor.result c.level-start.result c.level-end.result
+    c.value_of.ensures.value c.level-capacity.ensures c.level-floor.ensures c.level-start.ensures c.level-end.ensures
+    (none_is c.value_of.result c.is_none.result c.is_none.ensures ∙ c.if-is_none.false) c.if-floor-capacity.false c.if-start-floor.false c.if-start-capacity.false c.if-end-capacity.true))
+
+pub returns-clause-refusals : goal.returns-clause-refusals
+returns-clause-refusals c =
+    levels_pass c.args.table.now c.value_of.result c.level-capacity.result c.level-floor.result c.level-start.result c.level-end.result
+    c.value_of.ensures.value c.level-capacity.ensures c.level-floor.ensures c.level-start.ensures c.level-end.ensures
+    (none_is c.value_of.result c.is_none.result c.is_none.ensures ∙ c.if-is_none.false) c.if-floor-capacity.false c.if-start-floor.false c.if-start-capacity.false c.if-end-capacity.false
+
+pub returns-clause-levels : goal.returns-clause-levels
+returns-clause-levels c = record {
+  capacity = c.level-capacity.ensures;
+  floor = c.level-floor.ensures;
+  start = start_too c.args.table.now c.value_of.result c.level-capacity.result c.level-floor.result c.level-start.result c.level-end.result
+    c.value_of.ensures.value c.level-capacity.ensures c.level-floor.ensures c.level-start.ensures c.level-end.ensures;
+  end = end_too c.args.table.now c.value_of.result c.level-capacity.result c.level-floor.result c.level-start.result c.level-end.result
+    c.value_of.ensures.value c.level-capacity.ensures c.level-floor.ensures c.level-start.ensures c.level-end.ensures;
+}
