@@ -1,0 +1,5 @@
+mod Tests
+mod CellFacts
+mod HeadFacts
+mod RowFacts
+mod Sizes
