@@ -1,0 +1,12 @@
+use Rattle.std.proofs.Common.{◌++◌, pos, codes, slice_index}
+use Rattle.d_text.specs.Text.{whole_text}
+use Rattle.d_report.proofs.PlanTexts.{texts_begin, texts_go_on}
+use Rattle.d_report.proofs.hours.put_numbers.Goals as goal
+
+pub loop-number-init : goal.loop-number-init
+loop-number-init c = texts_begin c.args.text.now.items _
+
+pub loop-number-preserved : goal.loop-number-preserved
+loop-number-preserved c =
+    texts_go_on c.args.text.now.items c.loop-number.text.items c.put_number.new.text.items c.loop-number.number-index
+    (λ place. codes " " ++ whole_text (pos (slice_index c.args.numbers.now place))) c.loop-number.invariant c.in_ok-put_number.ensures
