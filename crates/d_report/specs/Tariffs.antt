@@ -1,7 +1,7 @@
 -- The text of a tariff: its periods with their tiers, the periods of each hour, the lists of months, its charges, and the columns of the
 -- record that it leaves out. All forms are our own.
 use Rattle.std.specs.Prelude.{ℕ, ◌+◌, ℤ, pos, Bool, true, false, List, [], ◌++◌, Option, Some, None, length, slice_index, slice_index_or, codes}
-use Rattle.d_text.specs.Text.{money_text, rate_text, whole_text}
+use Rattle.d_text.specs.Text.{money_text, whole_text}
 use Rattle.d_table.specs.Table.{cell_in, row_at}
 use Rattle.d_tier.specs.declared.tier.Tier.{Tier}
 use Rattle.d_tier.specs.Tables.{end_at, price_at}
@@ -10,12 +10,8 @@ use Rattle.d_tariff.specs.declared.charge.ChargeUnit.{ChargeUnit}
 use Rattle.d_tariff.specs.declared.charge.ChargeUnit.TheVariants.{Day, Month, Year}
 use Rattle.d_tariff.specs.declared.period.Period.{Period}
 use Rattle.d_tariff.specs.Terms.{Terms, period_at, tiers_at}
-use Rattle.d_report.specs.Lines.{line, texts_of}
+use Rattle.d_report.specs.Lines.{line, rate_line, texts_of}
 use Rattle.d_report.specs.Shown.{shown}
-
--- a line of a word and a price
-abbrev pub rate_line : List ℕ → ℤ → List ℕ
-rate_line word rate = line (word ++ rate_text rate)
 
 -- where a tier ends, in Wh or W; the last tier has no end
 abbrev pub end_text : Option ℤ → List ℕ
@@ -75,9 +71,9 @@ abbrev pub charge_line : List ℕ → Charge → List ℕ
 charge_line word charge = word ++ (money_text charge.amount ++ line (unit_text charge.unit))
 
 -- the line of the least that a bill is
-abbrev pub minimum_line : Option Charge → List ℕ
-minimum_line None = line (codes "minimum none")
-minimum_line (Some charge) = charge_line (codes "minimum ") charge
+abbrev pub minimum_charge_line : Option Charge → List ℕ
+minimum_charge_line None = line (codes "minimum none")
+minimum_charge_line (Some charge) = charge_line (codes "minimum ") charge
 
 -- the name of a column, as it is shown
 abbrev pub ignored_line : List (List (List ℕ)) → ℕ → List ℕ
@@ -97,8 +93,8 @@ abbrev pub front_lines : List ℕ → Bool → List ℕ
 front_lines label hourly = line (codes "dispatch tariff") ++ (line (codes "label " ++ label) ++ rule_line hourly)
 
 -- the lines of periods
-abbrev pub period_lines : Terms → List ℕ
-period_lines t = energy_periods t.energy ++ (demand_periods (codes "demand ") t.demand ++ demand_periods (codes "flat ") t.flat)
+abbrev pub all_period_lines : Terms → List ℕ
+all_period_lines t = energy_periods t.energy ++ (demand_periods (codes "demand ") t.demand ++ demand_periods (codes "flat ") t.flat)
 
 -- the lines of the hours
 abbrev pub hour_lines : Terms → List ℕ
@@ -112,11 +108,11 @@ month_lines t = codes "flat months" ++ (numbers_line t.flat_months ++ (codes "ra
 
 -- the lines of charges
 abbrev pub charge_lines : Terms → List ℕ
-charge_lines t = charge_line (codes "fixed ") t.fixed ++ minimum_line t.minimum
+charge_lines t = charge_line (codes "fixed ") t.fixed ++ minimum_charge_line t.minimum
 
 -- the lines of what a tariff says
 abbrev pub terms_lines : Terms → List ℕ
-terms_lines t = period_lines t ++ (hour_lines t ++ (month_lines t ++ charge_lines t))
+terms_lines t = all_period_lines t ++ (hour_lines t ++ (month_lines t ++ charge_lines t))
 
 -- the text of the tariff of a record of that label, in a table with these rows
 abbrev pub tariff_text : List (List (List ℕ)) → List ℕ → Terms → List ℕ

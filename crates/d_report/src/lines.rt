@@ -2,8 +2,7 @@
 
 ghost use Rattle.std.specs.Prelude.{◌≡◌, ℤ, [], ◌∷◌, ◌++◌, IfOk, OnOk};
 ghost use Rattle.d_text.specs.Text as spec;
-ghost use Rattle.d_report.specs.Lines.{line, money_line, title_lines};
-ghost use Rattle.d_report.specs.Tariffs.{rate_line};
+ghost use Rattle.d_report.specs.Lines.{line, money_line, rate_line, title_lines};
 
 use crate::dates::month_text;
 use d_bill::Problem;

@@ -14,7 +14,7 @@ const PERIODS: u8 = 36;
 
 /// Adds the lines of all energy periods, all demand periods and all flat demand periods that are there.
 pub(crate) fn put_periods(text: &mut Vec<u8>, tariff: &Tariff) -> Result<(), NoMemory>
-    ensures { OnOk result (text.new.items ≡ text.old.items ++ spec.period_lines (terms_of tariff.now)) }
+    ensures { OnOk result (text.new.items ≡ text.old.items ++ spec.all_period_lines (terms_of tariff.now)) }
 {
     put_energy_periods(text, &tariff.energy)?;
     put_demand_periods(text, "demand ", &tariff.demand)?;

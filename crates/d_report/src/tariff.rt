@@ -73,7 +73,7 @@ fn put_charges(text: &mut Vec<u8>, tariff: &Tariff) -> Result<(), NoMemory>
 
 /// Adds the line of the least that a bill is.
 fn put_minimum(text: &mut Vec<u8>, minimum: Option<Charge>) -> Result<(), NoMemory>
-    ensures { OnOk result (text.new.items ≡ text.old.items ++ spec.minimum_line minimum) }
+    ensures { OnOk result (text.new.items ≡ text.old.items ++ spec.minimum_charge_line minimum) }
 {
     match minimum {
         Some(charge) => put_charge(text, "minimum ", charge),
