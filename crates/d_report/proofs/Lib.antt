@@ -1,5 +1,6 @@
 mod PrintFacts
 mod LineFacts
+mod ShownCells
 mod GroupFacts
 mod PlanTexts
 mod PlanLevels

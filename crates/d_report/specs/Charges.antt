@@ -1,8 +1,7 @@
 -- The lines of a bill: what each energy period and each group of intervals is charged, what the export is paid, the fixed charge, the sum of
 -- these, and the minimum. All forms are our own.
 use Rattle.std.specs.Prelude.{ℕ, ℤ, pos, List, [], ◌++◌, Option, Some, None, length, slice_index_or, slice_get, option_map, unwrap_or, codes}
-use Rattle.std.specs.Fmt.{decimal}
-use Rattle.d_text.specs.Text.{money_text, whole_text}
+use Rattle.d_text.specs.Text.{whole_text}
 use Rattle.d_tier.specs.declared.peak.Peak.{Peak}
 use Rattle.d_tariff.specs.declared.period.Period.{Period}
 use Rattle.d_tariff.specs.Terms.{period_at}

@@ -1,7 +1,7 @@
 -- The lines of which printed texts are made. All forms are our own; dates and times are those of ISO 8601.
 use Rattle.std.specs.Prelude.{ℕ, zero, suc, ℤ, List, [], ◌∷◌, ◌++◌, codes}
 use Rattle.std.specs.Fmt.{decimal}
-use Rattle.d_text.specs.Text.{money_text}
+use Rattle.d_text.specs.Text.{money_text, rate_text}
 use Rattle.d_model.specs.Starts.{month_text, date_text, time_text, start_day, start_minute}
 use Rattle.d_bill.specs.Inputs.{Inputs}
 
@@ -12,6 +12,10 @@ line text = text ++ 10 ∷ []
 -- a line of a word and an amount of money
 abbrev pub money_line : List ℕ → ℤ → List ℕ
 money_line word money = line (word ++ money_text money)
+
+-- a line of a word and a price
+abbrev pub rate_line : List ℕ → ℤ → List ℕ
+rate_line word rate = line (word ++ rate_text rate)
 
 -- the texts of 0, 1, .. n - 1, one behind the other
 unfoldable pub texts_of : ℕ → (ℕ → List ℕ) → List ℕ

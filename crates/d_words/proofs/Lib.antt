@@ -2,3 +2,4 @@ mod Deciding
 mod PeakTexts
 mod WordPlaces
 pub mod RequestFound
+pub mod ShowFound

@@ -113,11 +113,11 @@ pub one_request : (words : List (List ℕ)) (asked other : Asked) → IsRequest 
 one_request words asked other one also = one_named (request_named one) (request_named also)
 
 -- a word may be a value
-value_decided : (word : List ℕ) → Decided (IsValue word)
+pub value_decided : (word : List ℕ) → Decided (IsValue word)
 value_decided word = both (is_below 0 (length word)) (opposite (same_number (slice_index word 0) 45))
 
 -- a word may be a label
-label_decided : (word : List ℕ) → Decided (IsLabel word)
+pub label_decided : (word : List ℕ) → Decided (IsLabel word)
 label_decided word = both (at_most (length word) 64) (each_item (λ byte. (33 ≤ byte) × (byte ≤ 126)) (λ byte. both (at_most 33 byte) (at_most byte 126)) word)
 
 -- the names of the files may be ones

@@ -11,6 +11,12 @@ pub record HasOptions (words : List (List ℕ)) : Type 0 where
   pub label : slice_index_or words 3 [] ≡ codes "--label"
   pub readings : slice_index_or words 5 [] ≡ codes "--readings"
 
+-- the command that shows a tariff and its two options stand at their places
+pub record NamesRecord (words : List (List ℕ)) : Type 0 where
+  pub command : slice_index_or words 0 [] ≡ codes "show"
+  pub records : slice_index_or words 1 [] ≡ codes "--records"
+  pub label : slice_index_or words 3 [] ≡ codes "--label"
+
 -- the first two words choose net billing
 pub record BeginsWithRule (words : List (List ℕ)) : Type 0 where
   pub long : 2 ≤ length words

@@ -29,7 +29,7 @@ fn has_names(task: &Task<'_>) -> bool
 }
 
 /// Whether the word may be an option's value.
-fn is_value(word: &str) -> bool
+pub(crate) fn is_value(word: &str) -> bool
     ensures { IsTrue result ↔ IsValue word.now }
 {
     let bytes = word.as_bytes();
@@ -37,7 +37,7 @@ fn is_value(word: &str) -> bool
 }
 
 /// Whether the word has the form of a label, but for its least length.
-fn is_label(word: &str) -> bool
+pub(crate) fn is_label(word: &str) -> bool
     ensures { IsTrue result ↔ IsLabel word.now }
 {
     word.len() <= 64

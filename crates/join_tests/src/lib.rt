@@ -1,5 +1,5 @@
 //! Tests of the problem that a record's tariff, readings and a battery are joined to, over public calls alone: the bills of months that were
-//! worked by hand, one of them printed, and schedules.
+//! worked by hand, one of them printed, schedules, and a shown tariff.
 #![tactic(auto)]
 
 #[cfg(test)]
@@ -12,3 +12,5 @@ mod printed;
 mod rows;
 #[cfg(test)]
 mod schedules;
+#[cfg(test)]
+mod shown;

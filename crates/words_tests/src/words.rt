@@ -1,6 +1,6 @@
 //! Lists of words, and what they ask for.
 
-use d_words::{Request, Task, names_one_request, read_words};
+use d_words::{Request, Task, names_one_request, names_one_show, read_show, read_words};
 use std::alloc::Global;
 use std::test::Fail;
 
@@ -77,8 +77,56 @@ fn reads_each_form_of_words(rt: HostRuntime) -> Result<(), Fail> {
     Ok(())
 }
 
-/// The law is a function that does nothing.
+/// What these words ask to see.
+fn seen(alloc: Global, line: &str) -> Result<String, Fail> {
+    let mut words = Vec::new(alloc);
+    for word in line.split(' ') {
+        words.push(String::from_str(alloc, word)?)?;
+    }
+    match read_show(words.as_slice()) {
+        Some(show) => {
+            let (records, label) = (show.records, show.label);
+            let rule = if show.net_billing { "net" } else { "own" };
+            Ok(format!(in alloc; "{records} {label} {rule}")?)
+        }
+        None => Ok(String::from_str(alloc, "refused")?),
+    }
+}
+
+/// Words that ask to see a tariff, and words that don't. A case is what is shown, an equals sign and the words.
 #[test]
-fn states_its_law(_rt: HostRuntime) {
+fn reads_what_is_to_be_seen(rt: HostRuntime) -> Result<(), Fail> {
+    let alloc = rt.alloc();
+    let cases = "a l own=show --records a --label l\
+        |a l net=show --records a --label l --rule net-billing\
+        |refused=plan --records a --label l\
+        |refused=show --label l --records a\
+        |refused=show --records a --label\
+        |refused=show --records a\
+        |refused=show --records -a --label l\
+        |refused=show --records  --label l\
+        |refused=show --records a --label -l\
+        |refused=show --records a --label \u{e9}\
+        |refused=show --records a --label l --rule\
+        |refused=show --records a --label l --rule net-metering\
+        |refused=show --rule net-billing --records a --label l\
+        |refused=show --records a --label l --rule net-billing --rule net-billing\
+        |refused=show --records a --label l --readings r\
+        |refused=show\
+        |refused=";
+    for case in cases.split('|') {
+        let Some((wanted, line)) = case.split_once('=') else {
+            return Err(Fail::new("a case without words"));
+        };
+        let found = seen(alloc, line)?;
+        assert!(rt; found.as_str() == wanted, "of {line}: {found}");
+    }
+    Ok(())
+}
+
+/// The laws are functions that do nothing.
+#[test]
+fn states_its_laws(_rt: HostRuntime) {
     names_one_request();
+    names_one_show();
 }

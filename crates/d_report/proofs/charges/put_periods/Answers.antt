@@ -1,4 +1,4 @@
-use Rattle.std.proofs.Common.{◌≡◌, ◌++◌, ℕ, List, ap, ◌∙◌, arith}
+use Rattle.std.proofs.Common.{◌≡◌, ◌++◌, ℕ, ap, ◌∙◌, arith}
 use Rattle.d_tariff.specs.Terms.{period_at}
 use Rattle.d_report.specs.Lines.{texts_of}
 use Rattle.d_report.specs.Charges.{period_at_line}

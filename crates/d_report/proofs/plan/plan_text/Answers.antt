@@ -1,4 +1,4 @@
-use Rattle.std.proofs.Common.{◌++◌, ◌∙◌, ℤ, List, ℕ, [], ap, ap₂, codes}
+use Rattle.std.proofs.Common.{◌++◌, ◌∙◌, List, ℕ, ap, ap₂, codes}
 use Rattle.d_bill.specs.Totals.{Tallied, tally_of}
 use Rattle.d_bill.specs.Bills.{bill_of, bill_by, metered_bill}
 use Rattle.d_report.specs.Lines.{title_lines}
