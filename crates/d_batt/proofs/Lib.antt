@@ -1,6 +1,6 @@
-mod Readers
+pub mod Readers
 mod Names
 mod Order
 mod RowFacts
 mod LevelFacts
-mod Accepted
+pub mod Accepted

@@ -2,7 +2,7 @@
 use Rattle.std.specs.Prelude.{ℕ, zero, suc, ℤ, List, [], ◌∷◌, ◌++◌, codes}
 use Rattle.std.specs.Fmt.{decimal}
 use Rattle.d_text.specs.Text.{money_text, rate_text}
-use Rattle.d_model.specs.Starts.{month_text, date_text, time_text, start_day, start_minute}
+use Rattle.d_cal.specs.Starts.{month_text, text_of, start_of}
 use Rattle.d_bill.specs.Inputs.{Inputs}
 
 -- a line ends with one line feed
@@ -24,7 +24,7 @@ texts_of (suc n) text = texts_of n text ++ text n
 
 -- the start of interval t of the month, as YYYY-MM-DDTHH:MM
 abbrev pub start_text : Inputs → ℕ → List ℕ
-start_text i t = date_text i.year i.number (start_day i.minutes t) ++ 84 ∷ time_text (start_minute i.minutes t)
+start_text i t = text_of (start_of i.year i.number i.minutes t)
 
 -- the lines that say what is answered: the command, the record's label, the month and the length of an interval
 abbrev pub title_lines : List ℕ → Inputs → List ℕ → List ℕ

@@ -1,7 +1,7 @@
 -- The text of a plan. All forms are our own.
 use Rattle.std.specs.Prelude.{ℕ, ◌+◌, ℤ, List, [], ◌∷◌, ◌++◌, length, slice_get, slice_index, option_map, unwrap_or, codes}
 use Rattle.std.specs.Fmt.{signed_decimal}
-use Rattle.d_model.specs.declared.mode.Mode.{Mode}
+use Rattle.d_batt.specs.declared.mode.Mode.{Mode}
 use Rattle.d_bill.specs.Inputs.{Inputs}
 use Rattle.d_bill.specs.Flows.{flow_of}
 use Rattle.d_bill.specs.Schedules.{level_at}

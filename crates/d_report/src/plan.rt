@@ -7,18 +7,15 @@ ghost use Rattle.d_bill.specs.Flows.{flow_of};
 ghost use Rattle.d_bill.specs.Schedules.{IsFeasible};
 ghost use Rattle.d_bill.specs.Totals.{IsTallied, tally_of};
 ghost use Rattle.d_bill.specs.Bills.{metered_bill};
-ghost use Rattle.d_report.specs.Lines.{start_text};
 ghost use Rattle.d_report.specs.Plans as spec;
 
 use crate::charges::put_bill;
-use crate::dates::{date_text, time_text};
 use crate::lines::{put_line, put_money, put_title};
 use d_bill::{Problem, Tally};
-use d_model::Mode;
+use d_batt::Mode;
+use d_cal::start_text;
 use d_num::{Money, NoMemory};
 use std::alloc::{AllocError, Global};
-
-const MINUTES_PER_DAY: u32 = 1440;
 
 /// The text of a plan by a feasible schedule: what is answered, what it costs and what the readings alone do, the lines of its bill, and a
 /// line for each interval.
@@ -112,9 +109,11 @@ fn put_interval(
     requires { t < length problem.now.net }
     ensures { OnOk result (text.new.items ≡ text.old.items ++ spec.level_line problem.now t mode.now (pos level)) }
 {
-    let start = start_text(alloc, problem, t)?;
+    // shows the ranges of the inputs
+    let _count = problem.intervals();
+    let start = start_text(problem.month(), problem.minutes(), t);
     let numbers = two_numbers(alloc, level, flow(problem, t, mode))?;
-    text.extend_from_slice(start.as_str().as_bytes())?;
+    text.extend_from_slice(&start)?;
     text.push(b' ')?;
     text.extend_from_slice(mode.name.bytes())?;
     put_line(text, " ", numbers.as_str())
@@ -133,17 +132,4 @@ fn two_numbers(alloc: Global, first: u8, second: i64) -> Result<String, AllocErr
     ensures { IfOk result (λ text. string_bytes text ≡ decimal first ++ 32 ∷ signed_decimal second) }
 {
     format!(in alloc; "{first} {second}")
-}
-
-/// The start of an interval, as YYYY-MM-DDTHH:MM.
-fn start_text(alloc: Global, problem: &Problem, t: u32) -> Result<String, AllocError>
-    requires { t < length problem.now.net }
-    ensures { IfOk result (λ text. string_bytes text ≡ start_text problem.now t) }
-{
-    // shows the ranges of the inputs
-    let _count = problem.intervals();
-    let minute = t * problem.minutes() as u32;
-    let date = date_text(alloc, problem.month(), minute / MINUTES_PER_DAY + 1)?;
-    let time = time_text(alloc, minute % MINUTES_PER_DAY)?;
-    format!(in alloc; "{date}T{time}")
 }

@@ -10,7 +10,8 @@ use Rattle.d_meter.proofs.MonthLaw.{accepts_months, one_outcome as one_month}
 use Rattle.d_batt.specs.Storage.{Storage, IsStorage}
 use Rattle.d_batt.specs.BatteryFile as battery
 use Rattle.d_batt.specs.declared.fault.BatteryFault.TheVariants as battery_fault
-use Rattle.d_batt.proofs.BatteryLaw.{accepts_batteries, one_outcome as one_battery}
+use Rattle.d_batt.proofs.Accepted.{accepts as accepts_batteries}
+use Rattle.d_batt.proofs.Readers.{one_outcome as one_battery}
 use Rattle.d_bill.proofs.JoinLaw.{joins_in_range}
 use Rattle.d_table.specs.Table.{IsRectangular}
 use Rattle.d_bill.specs.declared.schedule.ScheduleFault.{ScheduleFault}

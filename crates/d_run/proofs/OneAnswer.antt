@@ -3,6 +3,7 @@ use Rattle.std.proofs.Common.{◌≡◌, ◌⊎◌, inl, inr, ℕ, ◌<◌, ◌�
 use Rattle.d_desk.specs.Scene.{Files, bytes_in}
 use Rattle.d_bill.specs.Inputs.{Inputs, IsInRange}
 use Rattle.d_bill.specs.Schedules.{IsFeasible, IsFirstBreak}
+use Rattle.d_bill.specs.Join.{IsSettled}
 use Rattle.d_bill.specs.Law.{IsPlain}
 use Rattle.d_bill.specs.Slopes.{tiered}
 use Rattle.d_bill.specs.Totals.{tally_of}
@@ -18,8 +19,12 @@ use Rattle.d_run.specs.Text.{break_text}
 use Rattle.d_run.specs.Record.{IsRecord}
 use Rattle.d_batt.specs.Storage.{Storage, IsStorage}
 use Rattle.d_report.specs.Lines.{line}
-use Rattle.d_run.specs.ReadingsFile.{IsHourly}
-use Rattle.d_run.specs.Answer.{Answer, Reads, is_too_long, is_refused, goes_on, says, after_opening, refused, IsPlanned, no_schedule, least, IsBilled, billed, broken, IsFor, IsPlannable, has_group, has_tiers, is_plain, no_storage, joined, IsWithTerms, IsAnswerTo, IsAnswer, rule_of, no_request, request, rows_in, ReadsBattery, ReadsSchedule, RefusesRecord, RefusesReadings, RefusesBattery, RefusesSchedule, MeansSchedule, longest_file, longest_record}
+use Rattle.d_meter.specs.Meters.{Metered}
+use Rattle.d_tariff.specs.Terms.{Terms}
+use Rattle.d_words.specs.Shows.{Seen, IsShow}
+use Rattle.d_words.proofs.ShowFound.{one_show, show_or_none, show_alone}
+use Rattle.d_run.specs.RecordText.{hourly_text}
+use Rattle.d_run.specs.Answer.{Answer, Reads, is_too_long, is_refused, goes_on, says, after_opening, refused, IsPlanned, no_schedule, least, IsBilled, billed, broken, IsFor, IsPlannable, has_group, has_tiers, is_plain, no_storage, joined, Settles, unsettled, settled, IsWithTerms, IsAnswerTo, IsTariffOf, IsShownTo, labelled_in, IsAnswer, rule_of, no_request, request, show, rows_in, ReadsBattery, ReadsSchedule, RefusesRecord, RefusesReadings, MeansReadings, RefusesBattery, MeansBattery, RefusesSchedule, MeansSchedule, longest_file, longest_record}
 use Rattle.d_run.specs.Law.{HasAnswer}
 use Rattle.d_run.specs.declared.verdict.Verdict.TheVariants as verdict
 use Rattle.d_run.specs.declared.fault.Refusal.{Refusal}
@@ -28,8 +33,9 @@ use Rattle.d_run.proofs.StageFacts.{IsKnown, known_refused, known_value}
 use Rattle.d_bill.proofs.Deciding.{Decided, holds, fails, at_most}
 use Rattle.d_words.proofs.RequestFound.{request_or_none, one_request}
 use Rattle.d_run.proofs.RecordFound.{record_known}
-use Rattle.d_run.proofs.FilesKnown.{month_known, battery_known, schedule_known, joined_in_range}
+use Rattle.d_run.proofs.FilesKnown.{month_known, battery_known, battery_is, schedule_known, joined_in_range}
 use Rattle.d_run.proofs.PlanStages.{plain_follows}
+use Rattle.d_run.proofs.SettleStages.{settled_decided, settled_follows}
 use Rattle.d_run.proofs.ScheduleBreaks.{break_or_feasible}
 
 -- an answer of which this holds, and of no other
@@ -138,6 +144,19 @@ billed_one i label schedule long = by_break (break_or_feasible i schedule long)
 said_one : (answer : Answer) → HasOne (λ a. a ≡ answer)
 said_one answer = record { answer = answer; is = refl; only = λ other is. is }
 
+-- a record is settled and the answer goes on in one way, or it is refused
+settles_one : (text : List ℕ) (terms : Terms) (metered : Metered) (Next : Answer → Type 0) → HasOne Next → HasOne (Settles text terms metered Next)
+settles_one text terms metered Next one = by_pace (settled_decided terms metered)
+  where
+    refused_only : (IsSettled terms metered → ⊥) → (other : Answer) → Settles text terms metered Next other → other ≡ says verdict.Record text
+    refused_only none other (unsettled also is) = is
+    refused_only none other (settled is follows) = absurd (none is)
+
+    by_pace : Decided (IsSettled terms metered) → HasOne (Settles text terms metered Next)
+    by_pace (holds is) =
+        record { answer = one.answer; is = settled is one.is; only = λ other settles. one.only other (settled_follows text terms metered Next is other settles) }
+    by_pace (fails none) = record { answer = says verdict.Record text; is = unsettled none refl; only = refused_only none }
+
 -- the answer to a request is one
 module _ (files : Files) (asked : Asked) where
   task_one : (problem : Storage → Inputs) (wanted : Wanted) → ((storage : Storage) → IsStorage storage → IsInRange (problem storage))
@@ -145,17 +164,17 @@ module _ (files : Files) (asked : Asked) where
       → HasOne (IsFor files asked.label problem wanted)
   task_one problem (plan_with battery) fine plain =
       plannable_one (problem no_storage) (ReadsBattery files battery (λ storage. IsPlanned (problem storage) asked.label))
-      (λ flat. reads_one files battery longest_file LongBattery (RefusesBattery (rows_in files battery)) (IsBatteryFile (rows_in files battery))
+      (λ flat. reads_one files battery longest_file LongBattery (RefusesBattery (rows_in files battery)) (MeansBattery (rows_in files battery))
       (λ storage. IsPlanned (problem storage) asked.label) (battery_known (rows_in files battery))
-      (λ storage means. planned_one (problem storage) asked.label (fine storage means.valid) (plain storage flat)))
+      (λ storage means. planned_one (problem storage) asked.label (fine storage (battery_is (rows_in files battery) storage means)) (plain storage flat)))
   task_one problem wants_metered_bill fine plain = said_one _
   task_one problem (schedule_bill battery schedule) fine plain =
-      reads_one files battery longest_file LongBattery (RefusesBattery (rows_in files battery)) (IsBatteryFile (rows_in files battery))
+      reads_one files battery longest_file LongBattery (RefusesBattery (rows_in files battery)) (MeansBattery (rows_in files battery))
       (λ storage. ReadsSchedule files schedule (problem storage) (IsBilled (problem storage) asked.label))
       (battery_known (rows_in files battery))
       (λ storage means. reads_one files schedule longest_file LongSchedule (RefusesSchedule (problem storage) (rows_in files schedule))
       (MeansSchedule (problem storage) (rows_in files schedule)) (IsBilled (problem storage) asked.label)
-      (schedule_known (problem storage) (rows_in files schedule) (fine storage means.valid).storage)
+      (schedule_known (problem storage) (rows_in files schedule) (fine storage (battery_is (rows_in files battery) storage means)).storage)
       (λ modes is. billed_one (problem storage) asked.label modes is.1.long))
 
   request_one : HasOne (IsAnswerTo files asked)
@@ -163,33 +182,57 @@ module _ (files : Files) (asked : Asked) where
       let records = rows_in files asked.records in
       let readings = rows_in files asked.readings in
       let rule = rule_of asked.net_billing in
+      let text = hourly_text (labelled_in files asked.records asked.label) in
       reads_one files asked.records longest_record LongRecord (RefusesRecord records asked.label rule) (IsRecord records asked.label rule)
-      (IsWithTerms files asked) (record_known records asked.label rule)
-      (λ terms record_is. reads_one files asked.readings longest_file LongReadings (RefusesReadings readings) (IsHourly readings)
-      (λ month. IsFor files asked.label (joined terms month asked.prior_peak) asked.wanted) (month_known readings)
-      (λ month month_is. task_one (joined terms month asked.prior_peak) asked.wanted
-      (λ storage is. joined_in_range records readings asked.label rule terms month asked.prior_peak storage record_is month_is is)
-      (λ storage flat. record { groups = flat.groups; tiers = flat.tiers })))
+      (IsWithTerms files asked text) (record_known records asked.label rule)
+      (λ terms record_is. reads_one files asked.readings longest_file LongReadings (RefusesReadings readings) (MeansReadings readings)
+      (λ metered. Settles text terms metered (IsFor files asked.label (joined terms metered asked.prior_peak) asked.wanted)) (month_known readings)
+      (λ metered month_is. settles_one text terms metered (IsFor files asked.label (joined terms metered asked.prior_peak) asked.wanted)
+      (task_one (joined terms metered asked.prior_peak) asked.wanted
+      (λ storage is. joined_in_range records readings asked.label rule terms metered asked.prior_peak storage record_is month_is is)
+      (λ storage flat. record { groups = flat.groups; tiers = flat.tiers }))))
+
+-- the answer to words that ask to see a tariff is one
+seen_one : (files : Files) (seen : Seen) → HasOne (IsShownTo files seen)
+seen_one files seen =
+    let records = rows_in files seen.records in
+    let rule = rule_of seen.net_billing in
+    reads_one files seen.records longest_record LongRecord (RefusesRecord records seen.label rule) (IsRecord records seen.label rule)
+    (IsTariffOf (labelled_in files seen.records seen.label) seen.label) (record_known records seen.label rule) (λ terms record_is. said_one _)
 
 -- to words and files there is one answer
 pub one_answer : (words : List (List ℕ)) (files : Files) → HasAnswer words files
-one_answer words files = by_request (request_or_none words)
+one_answer words files = by_words (request_or_none words) (show_or_none words)
   where
-    none_only : ((asked : Asked) → IsRequest words asked → ⊥) → (other : Answer) → IsAnswer words files other → other ≡ refused Words
-    none_only none other (no_request also is) = is
-    none_only none other (request asked is to) = absurd (none asked is)
+    none_only : ((asked : Asked) → IsRequest words asked → ⊥) → ((seen : Seen) → IsShow words seen → ⊥) → (other : Answer) → IsAnswer words files other
+        → other ≡ refused Words
+    none_only none unseen other (no_request also still is) = is
+    none_only none unseen other (request asked is to) = absurd (none asked is)
+    none_only none unseen other (show seen is to) = absurd (unseen seen is)
 
     asked_only : (asked : Asked) → IsRequest words asked → (one : HasOne (IsAnswerTo files asked)) → (other : Answer) → IsAnswer words files other → other ≡ one.answer
-    asked_only asked is one other (no_request none also) = absurd (none asked is)
+    asked_only asked is one other (no_request none unseen also) = absurd (none asked is)
     asked_only asked is one other (request a also to) =
         let P : Asked → Type 0 = λ r. IsAnswerTo files r other in
         one.only other (subst P (one_request words a asked also is) to)
+    asked_only asked is one other (show seen also to) = absurd (show_alone words seen asked also is)
 
-    by_request : ((asked : Asked) × IsRequest words asked) ⊎ ((asked : Asked) → IsRequest words asked → ⊥) → HasAnswer words files
-    by_request (inr none) = record { answer = refused Words; is = no_request none refl; only = none_only none }
-    by_request (inl (asked, is)) =
+    seen_only : (seen : Seen) → IsShow words seen → (one : HasOne (IsShownTo files seen)) → (other : Answer) → IsAnswer words files other → other ≡ one.answer
+    seen_only seen is one other (no_request none unseen also) = absurd (unseen seen is)
+    seen_only seen is one other (request asked also to) = absurd (show_alone words seen asked is also)
+    seen_only seen is one other (show s also to) =
+        let P : Seen → Type 0 = λ r. IsShownTo files r other in
+        one.only other (subst P (one_show words s seen also is) to)
+
+    by_words : ((asked : Asked) × IsRequest words asked) ⊎ ((asked : Asked) → IsRequest words asked → ⊥)
+        → ((seen : Seen) × IsShow words seen) ⊎ ((seen : Seen) → IsShow words seen → ⊥) → HasAnswer words files
+    by_words (inl (asked, is)) seen =
         let one = request_one files asked in
         record { answer = one.answer; is = request asked is one.is; only = asked_only asked is one }
+    by_words (inr none) (inl (seen, is)) =
+        let one = seen_one files seen in
+        record { answer = one.answer; is = show seen is one.is; only = seen_only seen is one }
+    by_words (inr none) (inr unseen) = record { answer = refused Words; is = no_request none unseen refl; only = none_only none unseen }
 
 -- two answers to the same words and files are one
 pub answer_same : (words : List (List ℕ)) (files : Files) (one other : Answer) → IsAnswer words files one → IsAnswer words files other → one ≡ other

@@ -1,7 +1,7 @@
 use Rattle.std.proofs.Common.{◌≡◌, ℕ, pos, List, Some, ◌++◌, length, arith, sym, ap, ◌∙◌, slice_get, slice_index}
 use Rattle.std.proofs.lemmas.List.{append-nil}
-use Rattle.d_model.specs.declared.mode.Mode.{Mode}
-use Rattle.d_model.specs.Storage.{Storage}
+use Rattle.d_batt.specs.declared.mode.Mode.{Mode}
+use Rattle.d_batt.specs.Storage.{Storage}
 use Rattle.d_report.specs.Plans.{schedule_line}
 use Rattle.d_report.proofs.PlanTexts.{texts_none}
 use Rattle.d_report.proofs.PlanLevels.{level_none, mode_at, mode_read, level_kept, interval_more}
