@@ -1,17 +1,16 @@
 -- What isn't refused is a battery.
-use Rattle.std.proofs.Common.{◌≡◌, ◌≢◌, ◌⊎◌, inl, inr, ℕ, zero, suc, ◌+◌, ◌-◌, ◌<◌, ◌≤◌, ◌^◌, Bool, true, false, not, ◌&&◌, ◌||◌, ◌==◌, nat_le, nat_lt, ℤ, pos, neg_ℤ, ◌≤ℤ◌, unsigned_abs, List, [], ◌∷◌, ◌++◌, length, length-append, bytes_eq, codes, All, Option, None, Some, option_map, is_some, unwrap_or, slice_get, IfSome, Result, Ok, Err, refl, sym, ap, ◌∙◌, arith, subst, true≢false}
+use Rattle.std.proofs.Common.{◌≡◌, ◌⊎◌, inl, inr, ℕ, zero, suc, ◌<◌, ◌≤◌, ◌^◌, Bool, true, false, ◌&&◌, ◌||◌, ◌==◌, nat_le, nat_lt, ℤ, pos, neg_ℤ, ◌≤ℤ◌, unsigned_abs, List, [], ◌∷◌, ◌++◌, length, length-append, bytes_eq, codes, All, Option, None, Some, option_map, is_some, unwrap_or, slice_get, IfSome, Result, Ok, Err, refl, sym, ap, ◌∙◌, arith, subst, true≢false}
 use Rattle.std.specs.Prelude.{int_le, if◌then◌else◌}
 use Rattle.std.specs.Option.{is_none}
 use Rattle.std.proofs.lemmas.Bool.{cases_Bool}
 use Rattle.std.proofs.lemmas.Bool.Decides.{nat_tests}
 use Rattle.std.proofs.lemmas.Int.{ints}
-use Rattle.std.proofs.lemmas.List.Elements.{All-push}
-use Rattle.std.proofs.lemmas.Option.{slice_get_within}
+use Rattle.std.proofs.lemmas.List.Elements.{All-push, All-from_recursion}
 use Rattle.std.proofs.lemmas.Slice.Eq.{bytes_eq-Decides}
 use Rattle.d_num.specs.Amount.{IsWithin, IsUpTo}
 use Rattle.d_text.specs.declared.decimal.DecimalFault.{DecimalFault}
 use Rattle.d_list.specs.Firsts.{first_of, each, when}
-use Rattle.d_list.proofs.Firsts.{front_none, each_none, none_before, some_before}
+use Rattle.d_list.proofs.Firsts.{front_none, none_before, some_before}
 use Rattle.d_table.specs.Table.{cell_in}
 use Rattle.d_batt.specs.declared.fault.BatteryFault.{BatteryFault}
 use Rattle.d_batt.specs.declared.fault.BatteryFault.TheVariants.{Missing, Twice, Number, Range, NoModes, TooMany}
@@ -20,10 +19,10 @@ use Rattle.d_batt.specs.declared.setting.Setting.{Setting}
 use Rattle.d_batt.specs.declared.setting.Setting.TheVariants.{Capacity, Floor, Start, End, MaxImport, MaxExport}
 use Rattle.d_batt.specs.declared.kind.Kind.{Kind}
 use Rattle.d_batt.specs.declared.kind.Kind.TheVariants.{Sets, HasMode}
-use Rattle.d_batt.specs.Storage.{Storage, IsMode, IsStorage, HasDifferentNames}
-use Rattle.d_batt.specs.Kinds.{setting_limit, setting_of, setting_within, is_mode_name, kind_of, is_named, first_named, cells_at}
-use Rattle.d_batt.specs.Numbers.{Reader, IsReader, level_number, within, change_within, grid_within, level_within}
-use Rattle.d_batt.specs.BatteryFile.{kind_in, kind_refusals, has_unread, row_refusals, rows_refusals, mode_at, mode_of, mode_in, mode_by, modes, listed, twice_refusal, count_of, first_row, value_at, value_of, level, capacity_of, floor_of, start_of, end_of, row_of, grid_limit, level_refusals, battery_refusals, battery_of, battery_outcome, refused_or, has_header}
+use Rattle.d_batt.specs.Storage.{IsMode, IsStorage, HasDifferentNames}
+use Rattle.d_batt.specs.Kinds.{setting_limit, setting_of, kind_of, is_named, first_named, cells_at}
+use Rattle.d_batt.specs.Numbers.{Reader, level_number, within, change_within, grid_within, level_within}
+use Rattle.d_batt.specs.BatteryFile.{kind_in, kind_refusals, has_unread, row_refusals, rows_refusals, mode_at, mode_in, mode_by, modes, listed, count_of, first_row, value_at, value_of, capacity_of, floor_of, start_of, end_of, row_of, level_refusals, battery_refusals, battery_of, battery_outcome, refused_or, has_header}
 use Rattle.d_batt.specs.Law.{AcceptsBatteries}
 
 -- ---- tests that fail
@@ -190,7 +189,7 @@ sound_mode reader rows n sound is none =
     let facts = mode_in_sound reader cells mode.0 mode.1 in
     let kind = mode_kind (cell_in cells 0) (cell_in cells 1) is in
     let fresh : is_some (first_named rows n (codes "mode") mode.0.name) ≡ false =
-        ap (λ name. is_some (first_named rows n (codes "mode") name)) facts.1 ∙ ap (λ k. is_some (first_named rows n k (cell_in cells 1))) (sym kind) ∙ twice.0 in
+    ap (λ name. is_some (first_named rows n (codes "mode") name)) facts.1 ∙ ap (λ k. is_some (first_named rows n k (cell_in cells 1))) (sym kind) ∙ twice.0 in
     subst (λ (m : Option Mode). Sound rows (suc n) (modes reader rows n ++ listed m)) (sym mode.1)
     (sound_more rows n (modes reader rows n) mode.0 sound facts.0 many.0 fresh (own_name cells (codes "mode") mode.0.name kind facts.1))
 
@@ -203,7 +202,7 @@ sound_row reader rows n (Some HasMode) sound is none = sound_mode reader rows n 
 
 sound_rows : (reader : Reader) (rows : List (List (List ℕ))) (n : ℕ) → first_of (each n (row_refusals reader rows)) ≡ None → Sound rows n (modes reader rows n)
 unfolding each modes row_refusals
-sound_rows reader rows zero none = record { all = search; few = omega arith; names = λ j k one other at_j at_k same. absurd (let e : None ≡ Some one = at_j in cc); before = λ k mode at. absurd (let e : None ≡ Some mode = at in cc) }
+sound_rows reader rows zero none = record { all = All-from_recursion IsMode [] tt; few = omega arith; names = λ j k one other at_j at_k same. absurd (let e : None ≡ Some one = at_j in cc); before = λ k mode at. absurd (let e : None ≡ Some mode = at in cc) }
 sound_rows reader rows (suc n) none =
     let parts = front_none (each n (row_refusals reader rows)) (row_refusals reader rows n) none in
     sound_row reader rows n (kind_in (cells_at rows n)) (sound_rows reader rows n parts.0) refl parts.1

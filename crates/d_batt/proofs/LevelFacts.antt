@@ -1,15 +1,14 @@
 -- What levels are refused for.
-use Rattle.std.proofs.Common.{◌≡◌, ◌-◌, ◌<◌, ◌≤◌, ◌^◌, ◌⊎◌, inl, inr, ℕ, Bool, true, false, not, ◌||◌, nat_lt, ℤ, pos, unsigned_abs, List, [], ◌∷◌, length, codes, Option, None, Some, is_some, unwrap_or, Result, Ok, Err, refl, sym, ap, ◌∙◌, arith, subst}
+use Rattle.std.proofs.Common.{◌≡◌, ◌<◌, ◌≤◌, ◌⊎◌, inl, inr, ℕ, true, false, ◌||◌, nat_lt, ℤ, List, [], Option, None, Some, Result, refl, sym, ap, ◌∙◌, arith}
 use Rattle.std.proofs.lemmas.Bool.Decides.{Decides-ltb}
 use Rattle.std.specs.Option.{is_none}
 use Rattle.d_text.specs.declared.decimal.DecimalFault.{DecimalFault}
-use Rattle.d_list.specs.Firsts.{first_of, when}
+use Rattle.d_list.specs.Firsts.{first_of}
 use Rattle.d_table.specs.Table.{cell_in}
-use Rattle.d_batt.specs.declared.fault.BatteryFault.{BatteryFault}
 use Rattle.d_batt.specs.declared.fault.BatteryFault.TheVariants.{Missing, Range}
 use Rattle.d_batt.specs.declared.setting.Setting.{Setting}
 use Rattle.d_batt.specs.declared.setting.Setting.TheVariants.{Capacity, Floor, Start, End}
-use Rattle.d_batt.specs.Kinds.{cells_at, first_named, setting_name, setting_within}
+use Rattle.d_batt.specs.Kinds.{cells_at, setting_within}
 use Rattle.d_batt.specs.Numbers.{Reader, IsReader, Reads}
 use Rattle.d_batt.specs.Checks.{Passes, Refuses}
 use Rattle.d_batt.specs.BatteryFile.{value_at, value_of, level, row_of, first_row, level_refusals, capacity_of, floor_of, start_of, end_of}

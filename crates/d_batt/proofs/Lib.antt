@@ -4,3 +4,4 @@ mod Order
 mod RowFacts
 mod LevelFacts
 pub mod Accepted
+mod Outcomes

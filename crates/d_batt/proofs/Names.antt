@@ -2,7 +2,6 @@
 use Rattle.std.proofs.Common.{◌≡◌, ◌↔◌, ℕ, Bool, true, false, List, [], ◌∷◌, ◌&&◌, All, IsTrue, refl, sym, true≢false}
 use Rattle.std.specs.List.{list_all}
 use Rattle.std.proofs.lemmas.List.Elements.{recursion_from_All, All-from_recursion}
-use Rattle.std.proofs.lemmas.Bool.{cases_Bool}
 use Rattle.std.specs.List.{AllByRecursion}
 
 all_listed : (test : ℕ → Bool) (xs : List ℕ) → AllByRecursion (λ x. IsTrue (test x)) xs → list_all test xs ≡ true
@@ -17,7 +16,7 @@ listed_all : (test : ℕ → Bool) (xs : List ℕ) → list_all test xs ≡ true
 listed_all test [] e = tt
 listed_all test (x ∷ xs) e = let parts = both_true (test x) (list_all test xs) e in (parts.0, listed_all test xs parts.1)
 
-same_answer : (a b : Bool) → (a ≡ true → b ≡ true) → (b ≡ true → a ≡ true) → a ≡ b
+pub same_answer : (a b : Bool) → (a ≡ true → b ≡ true) → (b ≡ true → a ≡ true) → a ≡ b
 same_answer true true there back = refl
 same_answer false false there back = refl
 same_answer true false there back = absurd (true≢false (sym (there refl)))

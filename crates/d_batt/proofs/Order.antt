@@ -1,10 +1,10 @@
 -- The order of refusals.
-use Rattle.std.proofs.Common.{◌≡◌, ◌⊎◌, inl, inr, ℕ, suc, ◌+◌, ◌<◌, Bool, true, false, List, [], ◌∷◌, ◌++◌, Option, None, Some, Result, Ok, Err, refl, ◌∙◌, arith, subst}
+use Rattle.std.proofs.Common.{◌≡◌, inl, inr, ℕ, suc, ◌+◌, ◌<◌, Bool, true, false, List, ◌∷◌, ◌++◌, Option, None, Some, Err, refl, ◌∙◌, arith, subst}
 use Rattle.d_list.specs.Firsts.{first_of, each, when}
 use Rattle.d_list.proofs.Firsts.{none_before, some_before, each_here}
 use Rattle.d_batt.specs.declared.fault.BatteryFault.{BatteryFault}
-use Rattle.d_batt.specs.Checks.{Passes, Refuses, Checks}
-use Rattle.d_batt.specs.Numbers.{Reader, IsReader}
+use Rattle.d_batt.specs.Checks.{Passes, Checks}
+use Rattle.d_batt.specs.Numbers.{Reader}
 
 -- a test that holds decides
 pub test_first : {R : Type 0} (test : Bool) (refused : R) (rest : List (Option R)) → test ≡ true → first_of (when test refused ∷ rest) ≡ Some refused

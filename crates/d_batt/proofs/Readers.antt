@@ -7,8 +7,6 @@ use Rattle.d_text.proofs.OnceLaws.{fault_once}
 use Rattle.d_text.proofs.DecimalLaws.{decimal_same}
 use Rattle.d_text.proofs.FaultLaws.{decimal_refused}
 use Rattle.d_text.proofs.OutcomeLaws.{decimal_outcome}
-use Rattle.d_batt.specs.declared.fault.BatteryFault.{BatteryFault}
-use Rattle.d_batt.specs.Storage.{Storage}
 use Rattle.d_batt.specs.Numbers.{IsWhole, Reader, IsReader, HasOneReader}
 use Rattle.d_batt.specs.BatteryFile.{battery_outcome}
 use Rattle.d_batt.specs.Law.{HasOneOutcome}

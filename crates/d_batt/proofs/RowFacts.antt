@@ -1,5 +1,5 @@
 -- What the rows of a battery file are refused for.
-use Rattle.std.proofs.Common.{◌≡◌, inl, inr, ℕ, suc, ◌+◌, ◌<◌, ◌^◌, Bool, true, false, not, ℤ, List, [], ◌∷◌, ◌++◌, length, codes, nat_le, Option, None, Some, is_some, Result, Ok, Err, OnOk, refl, sym, ap, ◌∙◌, arith, subst}
+use Rattle.std.proofs.Common.{◌≡◌, inl, inr, ℕ, suc, ◌+◌, ◌<◌, Bool, true, false, not, ℤ, List, [], ◌∷◌, ◌++◌, length, nat_le, Option, None, Some, is_some, Result, Ok, Err, OnOk, refl, sym, ap, ◌∙◌, arith}
 use Rattle.std.specs.Option.{is_none}
 use Rattle.d_text.specs.declared.decimal.DecimalFault.{DecimalFault}
 use Rattle.d_list.specs.Firsts.{first_of, each, when}
@@ -14,8 +14,8 @@ use Rattle.d_batt.specs.declared.kind.Kind.TheVariants.{Sets, HasMode}
 use Rattle.d_batt.specs.Kinds.{kind_of, is_named, first_named, cells_at, setting_within}
 use Rattle.d_batt.specs.Numbers.{Reader, IsReader, Reads, is_unread, level_number}
 use Rattle.d_batt.specs.Checks.{Passes, Refuses, Checks}
-use Rattle.d_batt.specs.BatteryFile.{kind_in, set_value, setting_refusals, mode_of, mode_in, mode_by, are_unread, has_unread, modes, with_mode, listed, number_refusals, mode_refusals, row_refusals, kind_refusals, twice_refusal}
-use Rattle.d_batt.proofs.Order.{test_first, test_next, both_pass, first_fails, then_fails}
+use Rattle.d_batt.specs.BatteryFile.{kind_in, setting_refusals, mode_of, mode_in, mode_by, are_unread, has_unread, modes, with_mode, listed, number_refusals, mode_refusals, row_refusals, kind_refusals, twice_refusal}
+use Rattle.d_batt.proofs.Order.{test_first, test_next, both_pass, then_fails}
 
 -- ---- the first row of a name
 
@@ -104,9 +104,9 @@ pub mode_too_many : (rows : List (List (List ℕ))) (row : ℕ) (old : List Mode
     → Passes (λ reader. number_refusals reader rows row) → Refuses (λ reader. mode_refusals reader rows row) (TooMany row)
 mode_too_many rows row old old_is many passes = elim (then_fails Mode Mode (λ reader. number_refusals reader rows row) (λ reader. when (nat_le 64 (length (modes reader rows row))) (TooMany row) ∷ []) (TooMany row) passes
     (inr (λ reader are. test_first _ (TooMany row) [] (sym (ap (λ (list : List Mode). nat_le 64 (length list)) (old_is reader are)) ∙ many)))) [
-  | inl memory ↦ absurd (let e : TooMany row ≡ BatteryFault.Memory = memory in cc)
-  | inr refuses ↦ refuses
-]
+      | inl memory ↦ absurd (let e : TooMany row ≡ BatteryFault.Memory = memory in cc)
+      | inr refuses ↦ refuses
+    ]
 
 pub mode_fits : (rows : List (List (List ℕ))) (row : ℕ) (old : List Mode) → Reads (λ reader. modes reader rows row) old → nat_le 64 (length old) ≡ false
     → Passes (λ reader. number_refusals reader rows row) → Passes (λ reader. mode_refusals reader rows row)

@@ -11,9 +11,7 @@ use crate::fault::BatteryFault;
 use crate::kind::{Kind, kind_of};
 use crate::mode::{Mode, ModeList};
 use crate::name::Name;
-use crate::number::{
-    change_within, grid_within, is_unread, level_within, read_level, read_whole,
-};
+use crate::number::{change_within, grid_within, is_unread, level_within, read_level, read_whole};
 use crate::setting::{Setting, setting_within};
 use d_table::Table;
 use d_text::DecimalFault;

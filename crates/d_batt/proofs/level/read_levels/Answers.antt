@@ -1,5 +1,4 @@
-use Rattle.std.proofs.Common.{◌∙◌, ◌≡◌, ◌⊎◌, inl, inr, ℕ, Bool, Option, ℤ, subst, sym, ap, true}
-use Rattle.d_batt.specs.declared.fault.BatteryFault.{BatteryFault}
+use Rattle.std.proofs.Common.{◌∙◌, inr, subst, sym}
 use Rattle.d_batt.specs.Checks.{Refuses}
 use Rattle.d_batt.specs.BatteryFile.{level_refusals}
 use Rattle.d_batt.proofs.RowFacts.{none_is}
@@ -42,7 +41,7 @@ returns-clause-levels c = record {
   capacity = c.level-capacity.ensures;
   floor = c.level-floor.ensures;
   start = start_too c.args.table.now c.value_of.result c.level-capacity.result c.level-floor.result c.level-start.result c.level-end.result
-    c.value_of.ensures.value c.level-capacity.ensures c.level-floor.ensures c.level-start.ensures c.level-end.ensures;
+      c.value_of.ensures.value c.level-capacity.ensures c.level-floor.ensures c.level-start.ensures c.level-end.ensures;
   end = end_too c.args.table.now c.value_of.result c.level-capacity.result c.level-floor.result c.level-start.result c.level-end.result
-    c.value_of.ensures.value c.level-capacity.ensures c.level-floor.ensures c.level-start.ensures c.level-end.ensures;
+      c.value_of.ensures.value c.level-capacity.ensures c.level-floor.ensures c.level-start.ensures c.level-end.ensures;
 }

@@ -1,4 +1,4 @@
-use Rattle.std.proofs.Common.{◌≡◌, arith, inr, nat_le, true, false, length, sym, ◌∙◌, ap, [], ◌∷◌}
+use Rattle.std.proofs.Common.{◌≡◌, arith, inr, nat_le, true, false, length, [], ◌∷◌}
 use Rattle.std.specs.Bool.{⊤}
 use Rattle.std.proofs.lemmas.Result.{err_from_is_err_and}
 use Rattle.std.proofs.lemmas.Bool.Decides.{nat_tests}
@@ -7,7 +7,7 @@ use Rattle.d_batt.specs.declared.mode.Mode.{Mode}
 use Rattle.d_batt.specs.declared.fault.BatteryFault.TheVariants.{TooMany}
 use Rattle.d_batt.specs.BatteryFile.{number_refusals, modes}
 use Rattle.d_batt.proofs.Order.{first_fails}
-use Rattle.d_batt.proofs.RowFacts.{mode_too_many, mode_fits, mode_added}
+use Rattle.d_batt.proofs.RowFacts.{mode_too_many, mode_fits}
 use Rattle.d_batt.proofs.row.add_mode.Goals as goal
 
 pub returns-in_err-mode-clause-refusals : goal.returns-in_err-mode-clause-refusals

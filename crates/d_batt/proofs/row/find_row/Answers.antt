@@ -1,4 +1,3 @@
-use Rattle.std.proofs.Common.{arith}
 use Rattle.d_batt.proofs.RowFacts.{none_named, other_named, here_named}
 use Rattle.d_batt.proofs.row.find_row.Goals as goal
 

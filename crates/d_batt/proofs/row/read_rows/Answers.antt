@@ -1,12 +1,11 @@
-use Rattle.std.proofs.Common.{◌≡◌, ◌-◌, ℕ, List, Option, length, arith, subst}
+use Rattle.std.proofs.Common.{◌≡◌, ◌-◌, List, length, arith, subst}
 use Rattle.std.specs.Bool.{⊤}
 use Rattle.std.proofs.lemmas.Result.{err_from_is_err_and}
 use Rattle.d_list.specs.Firsts.{each}
-use Rattle.d_batt.specs.declared.fault.BatteryFault.{BatteryFault}
 use Rattle.d_batt.specs.declared.mode.Mode.{Mode}
 use Rattle.d_batt.specs.BatteryFile.{row_refusals, rows_refusals, modes}
 use Rattle.d_batt.specs.Checks.{Passes}
-use Rattle.d_batt.specs.Numbers.{Reader, Reads}
+use Rattle.d_batt.specs.Numbers.{Reads}
 use Rattle.d_batt.proofs.Order.{none_yet, one_more, refused_here}
 use Rattle.d_batt.proofs.RowFacts.{no_modes}
 use Rattle.d_batt.proofs.row.read_rows.Goals as goal
