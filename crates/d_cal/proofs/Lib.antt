@@ -4,3 +4,4 @@ mod Digits
 mod StartParts
 mod StartPairs
 pub mod StartLaws
+pub mod StartFound

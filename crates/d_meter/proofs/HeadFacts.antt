@@ -80,7 +80,7 @@ named header answer tells = by_both answer (is_header header) tells decides
 
     by_both : (a b : Bool) → IsTrue a ↔ IsHeader (codes "start" ∷ codes "net_wh" ∷ []) header
         → Decides b (map str_to_ascii_lowercase header ≡ codes "start" ∷ codes "net_wh" ∷ []) → a ≡ b
-    by_both true true tells decides = refl
-    by_both false false tells decides = refl
-    by_both true false tells decides = sym (decides.1 (tells.0 tt))
-    by_both false true tells decides = absurd (tells.1 (decides.0 refl))
+    by_both true true tells told = refl
+    by_both false false tells told = refl
+    by_both true false tells told = sym (told.1 (tells.0 refl))
+    by_both false true tells told = absurd (let e : false ≡ true = tells.1 (told.0 refl) in cc)

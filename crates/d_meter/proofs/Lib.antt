@@ -2,4 +2,8 @@ mod Tests
 mod CellFacts
 mod HeadFacts
 mod RowFacts
+mod RowLoop
+mod Outcomes
+mod OneReader
+mod MonthLaw
 mod Sizes

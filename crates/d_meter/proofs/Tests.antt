@@ -25,3 +25,10 @@ pub checked : {A : Type 0} (refusals others : MeterReader → List (Option Meter
     → ((reader : MeterReader) → IsMeterReader reader → first_of (refusals reader) ≡ first_of (others reader)) → Checks others result → Checks refusals result
 checked refusals others (Ok value) same checks = λ reader are. same reader are ∙ checks reader are
 checked refusals others (Err refused) same checks = λ reader are. same reader are ∙ checks reader are
+
+-- where no refusal comes, the first test doesn't hold, and none of the others comes
+pub none_here : (test : Bool) (refused : MeterFault) (rest : List (Option MeterFault)) → first_of (when test refused ∷ rest) ≡ None
+    → (test ≡ false) × (first_of rest ≡ None)
+unfolding first_of
+none_here true refused rest none = absurd (let e : Some refused ≡ None = none in cc)
+none_here false refused rest none = (refl, none)

@@ -39,6 +39,7 @@ fn read_rows(alloc: Global, table: &Table, head: Head) -> Result<NetList, MeterF
     requires fits { FitsMonth (row_count table.now) head.month.year head.month.number head.minutes }
     ensures refusals { ChecksOrNot (λ reader. each (row_count table.now) (row_refusals reader table.now head.month.year head.month.number head.minutes)) result }
     ensures net { IfOk result (λ net. Reads (λ reader. map (net_of reader) (drop 1 table.now)) net) }
+    ensures count { IfOk result (λ net. length net ≡ row_count table.now) }
     ensures small { IfOk result (All (IsWithin (10 ^ 9))) }
 {
     let mut net = NetList::new(alloc);

@@ -1,6 +1,4 @@
-use Rattle.std.proofs.Common.{◌≡◌, ◌*◌, ◌/◌, ℕ, sym, ap, ◌∙◌, arith}
-use Rattle.jiff_core.specs.Calendar.{days_in_month}
-use Rattle.d_meter.specs.Readings.{interval_count}
+use Rattle.std.proofs.Common.{◌≡◌, ◌*◌, ◌/◌, ℕ, sym, ◌∙◌, rules}
 use Rattle.d_meter.proofs.HeadFacts.{not_begun, no_step, other_count, right_count}
 use Rattle.d_meter.proofs.head.head_of.Goals as goal
 
