@@ -37,10 +37,11 @@ abbrev pub demand_lines : List ℕ → ℕ → Option (List Tier) → List ℕ
 demand_lines word number None = []
 demand_lines word number (Some tiers) = line (word ++ whole_text (pos number)) ++ tier_lines tiers
 
--- the lines of all energy periods, and of all demand periods of a kind
+-- the lines of all energy periods
 abbrev pub energy_periods : List (Option Period) → List ℕ
 energy_periods periods = texts_of 36 (λ number. energy_lines number (period_at periods number))
 
+-- the lines of all demand periods, of demand or of flat demand as the word says
 abbrev pub demand_periods : List ℕ → List (Option (List Tier)) → List ℕ
 demand_periods word lists = texts_of 36 (λ number. demand_lines word number (tiers_at lists number))
 

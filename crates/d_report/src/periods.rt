@@ -5,12 +5,10 @@ ghost use Rattle.d_tariff.specs.Shown.{terms_of};
 ghost use Rattle.d_report.specs.Tariffs as spec;
 
 use crate::lines::{put_line_end, put_number, put_rate, put_word};
+use d_bill::PERIODS;
 use d_num::{NoMemory, Rate};
 use d_tariff::{Period, Periods, Tariff, TierLists};
 use d_tier::Tiers;
-
-// How many periods of a kind there can be.
-const PERIODS: u8 = 36;
 
 /// Adds the lines of all energy periods, all demand periods and all flat demand periods that are there.
 pub(crate) fn put_periods(text: &mut Vec<u8>, tariff: &Tariff) -> Result<(), NoMemory>
