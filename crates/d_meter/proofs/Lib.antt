@@ -4,6 +4,6 @@ mod HeadFacts
 mod RowFacts
 mod RowLoop
 mod Outcomes
-mod OneReader
-mod MonthLaw
+pub mod OneReader
+pub mod MonthLaw
 mod Sizes

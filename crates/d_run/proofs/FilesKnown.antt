@@ -6,7 +6,8 @@ use Rattle.d_urdb.proofs.TariffLaw.{accepts_tariffs, accepts_tables, accepts_gri
 use Rattle.d_meter.specs.Meters.{Metered}
 use Rattle.d_meter.specs.Readings as readings
 use Rattle.d_meter.specs.declared.fault.MeterFault.TheVariants as meter_fault
-use Rattle.d_meter.proofs.MonthLaw.{accepts_months, one_outcome as one_month}
+use Rattle.d_meter.proofs.MonthLaw.{accepts_months}
+use Rattle.d_meter.proofs.OneReader.{one_outcome as one_month}
 use Rattle.d_batt.specs.Storage.{Storage, IsStorage}
 use Rattle.d_batt.specs.BatteryFile as battery
 use Rattle.d_batt.specs.declared.fault.BatteryFault.TheVariants as battery_fault
