@@ -86,8 +86,8 @@ module _ (reader : MeterReader) (are : IsMeterReader reader) (rows : List (List 
     record {
       pace = step_length first second step;
       whole =
-          ap (λ n. n * second.minute) (length-map (net_of reader) (drop 1 rows) ∙ length-drop 1 rows ∙ count)
-              ∙ fills (days_in_month first.year first.month) second.minute (step_length first second step);
+          ap (λ n. n * second.minute) (length-map (drop 1 rows) (net_of reader) ∙ length-drop 1 rows ∙ count)
+          ∙ fills (days_in_month first.year first.month) second.minute (step_length first second step);
       small = All-map (IsWithin (10 ^ 9)) (net_of reader) (drop 1 rows) (λ k cells below. net_small _ (reader.net (cell_in (get_or (drop 1 rows) k cells) 1)) (are.net_is _));
     },
   )

@@ -24,7 +24,7 @@ module _ (rows : List (List (List ℕ))) where
     unfolding readings_of
     same_rows reader are =
         none_before (head_refusals reader rows) (all_row_refusals reader rows (readings_of reader rows)) (passes reader are)
-            ∙ rw (head.year_is reader are, head.number_is reader are, head.minutes_is reader are) refl
+        ∙ rw (head.year_is reader are, head.number_is reader are, head.minutes_is reader are) refl
 
     -- a row is refused
     pub row_refused : (refused : MeterFault) → Refuses (λ reader. each (row_count rows) (row_refusals reader rows year number minutes)) refused

@@ -39,9 +39,9 @@ net_more reader rows row before net below so_far here =
     let at : get_or (drop 1 rows) row [] ≡ row_at rows (row + 1) = get_or_after_one rows row [] ∙ ap (λ n. get_or rows n []) place in
     let last : net_of reader (get_or (drop 1 rows) row []) ≡ net = ap (net_of reader) at ∙ ap net_or_0 here in
     ap (λ n. map (net_of reader) (take n (drop 1 rows))) next
-        ∙ (ap (map (net_of reader)) (take-suc (drop 1 rows) row [] within)
-        ∙ (map-append (net_of reader) (take row (drop 1 rows)) (get_or (drop 1 rows) row [] ∷ [])
-        ∙ (ap (λ (xs : List ℤ). xs ++ net_of reader (get_or (drop 1 rows) row []) ∷ []) so_far ∙ ap (λ (n : ℤ). before ++ n ∷ []) last)))
+    ∙ (ap (map (net_of reader)) (take-suc (drop 1 rows) row [] within)
+    ∙ (map-append (net_of reader) (take row (drop 1 rows)) (get_or (drop 1 rows) row [] ∷ [])
+    ∙ (ap (λ (xs : List ℤ). xs ++ net_of reader (get_or (drop 1 rows) row []) ∷ []) so_far ∙ ap (λ (n : ℤ). before ++ n ∷ []) last)))
 
 -- one more of them is as long
 pub long_more : (before after : List ℤ) (net : ℤ) (row : ℕ) → after ≡ before ++ net ∷ [] → length before ≡ row → length after ≡ row + 1

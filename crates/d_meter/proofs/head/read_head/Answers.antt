@@ -14,16 +14,16 @@ returns-then-count-lt2-clause-refusals c =
 pub returns-in_default-clause-refusals : goal.returns-in_default-clause-refusals
 returns-in_default-clause-refusals c =
     λ reader are. no_first reader c.args.table.now c.rows-count.result (sym c.if-not-has_names.ensures.value) c.rows-count.ensures.count c.if-count-lt2.false
-        (c.in_default.ensures.value reader are)
+    (c.in_default.ensures.value reader are)
 
 pub returns-in_default-start_at-clause-refusals : goal.returns-in_default-start_at-clause-refusals
 returns-in_default-start_at-clause-refusals c =
     λ reader are. no_second reader c.args.table.now c.rows-count.result (sym c.if-not-has_names.ensures.value) c.rows-count.ensures.count c.if-count-lt2.false
-        c.in-Some.first (c.in-Some.ensures.value reader are) (c.in_default-start_at.ensures.value reader are)
+    c.in-Some.first (c.in-Some.ensures.value reader are) (c.in_default-start_at.ensures.value reader are)
 
 pub returns-clause-refusals : goal.returns-clause-refusals
 returns-clause-refusals c =
     decided (λ reader. head_refusals reader c.args.table.now) (month_refusals c.in-Some.first c.in-Some-start_at.second c.rows-count.result) c.head_of.result
     (λ reader are. both_starts reader c.args.table.now c.rows-count.result (sym c.if-not-has_names.ensures.value) c.rows-count.ensures.count c.if-count-lt2.false
-        c.in-Some.first c.in-Some-start_at.second (c.in-Some.ensures.value reader are) (c.in-Some-start_at.ensures.value reader are))
+    c.in-Some.first c.in-Some-start_at.second (c.in-Some.ensures.value reader are) (c.in-Some-start_at.ensures.value reader are))
     c.head_of.ensures.refusals

@@ -8,7 +8,6 @@ use Rattle.d_meter.specs.Checks.{Passes}
 use Rattle.d_meter.proofs.RowLoop.{none_yet, one_more, refused_here, net_more, all_net, long_more, small_more, small_yet}
 use Rattle.d_meter.proofs.read.read_rows.Goals as goal
 
-
 pub loop-row-init : goal.loop-row-init
 loop-row-init c = record {
   passes = none_yet (λ reader. row_refusals reader c.args.table.now c.args.head.month.year c.args.head.month.number c.args.head.minutes);
@@ -31,7 +30,7 @@ loop-row-preserved c =
     record {
       passes = one_more c.loop-row.row list c.loop-row.invariant.passes c.in_ok-read_row.ensures.refusals;
       read = λ reader are. rw (c.in_ok-add.ensures.ok) (net_more reader c.args.table.now c.loop-row.row c.loop-row.net c.in_ok-read_row.field-0
-        (omega (arith, c.loop-row-test.true, c.rows-row-end.ensures.count)) (c.loop-row.invariant.read reader are) (c.in_ok-read_row.ensures.net reader are));
+          (omega (arith, c.loop-row-test.true, c.rows-row-end.ensures.count)) (c.loop-row.invariant.read reader are) (c.in_ok-read_row.ensures.net reader are));
       long = long_more c.loop-row.net c.add.new.self c.in_ok-read_row.field-0 c.loop-row.row c.in_ok-add.ensures.ok c.loop-row.invariant.long;
       small = small_more (10 ^ 9) c.loop-row.net c.add.new.self c.in_ok-read_row.field-0 c.in_ok-add.ensures.ok c.loop-row.invariant.small c.in_ok-read_row.ensures.small;
     }
