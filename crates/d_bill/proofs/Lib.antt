@@ -20,3 +20,4 @@ pub mod ScheduleFound
 mod JoinFacts
 mod JoinRange
 pub mod JoinLaw
+mod StartFacts

@@ -12,7 +12,7 @@ returns-then-is_none-clause-fault c =
       right = c.requires.right;
       there = c.requires.there;
       start = start;
-      wrong = no_mode i c.args.table.now c.args.t c.cell-2.result.now c.mode_named.result c.cell-2.ensures none c.mode_named.ensures.none;
+      wrong = no_mode i c.args.table.now c.args.t c.cell.result.now c.mode_named.result c.cell.ensures none c.mode_named.ensures.none;
     }
 
 pub returns-clause-right : goal.returns-clause-right
@@ -20,4 +20,4 @@ returns-clause-right c =
     let i = c.args.problem.now in
     let start : HasStart i c.args.table.now c.args.t = search rules in
     let some = c.is_none.ensures ∙ ap not c.if-is_none.false in
-    mode_found i c.args.table.now c.args.t c.cell-2.result.now c.mode_named.result c.cell-2.ensures some c.mode_named.ensures.some c.requires.right start
+    mode_found i c.args.table.now c.args.t c.cell.result.now c.mode_named.result c.cell.ensures some c.mode_named.ensures.some c.requires.right start
