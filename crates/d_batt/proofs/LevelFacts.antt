@@ -1,5 +1,5 @@
 -- What levels are refused for.
-use Rattle.std.proofs.Common.{◌≡◌, ◌<◌, ◌≤◌, ◌⊎◌, inl, inr, ℕ, true, false, ◌||◌, nat_lt, ℤ, List, [], Option, None, Some, Result, refl, sym, ap, ◌∙◌, arith}
+use Rattle.std.proofs.Common.{◌≡◌, ◌<◌, ◌≤◌, ℕ, true, false, nat_lt, ℤ, List, [], Option, None, Some, Result, refl, sym, ap, ◌∙◌, arith}
 use Rattle.std.proofs.lemmas.Bool.Decides.{Decides-ltb}
 use Rattle.std.specs.Option.{is_none}
 use Rattle.d_text.specs.declared.decimal.DecimalFault.{DecimalFault}
@@ -11,7 +11,7 @@ use Rattle.d_batt.specs.declared.setting.Setting.TheVariants.{Capacity, Floor, S
 use Rattle.d_batt.specs.Kinds.{cells_at, setting_within}
 use Rattle.d_batt.specs.Numbers.{Reader, IsReader, Reads}
 use Rattle.d_batt.specs.Checks.{Passes, Refuses}
-use Rattle.d_batt.specs.BatteryFile.{value_at, value_of, level, row_of, first_row, level_refusals, capacity_of, floor_of, start_of, end_of}
+use Rattle.d_batt.specs.BatteryFile.{value_at, value_of, level, row_of, first_row, level_refusals, is_outside, capacity_of, floor_of, start_of, end_of}
 use Rattle.d_batt.proofs.Order.{test_first, test_next}
 
 -- ---- the number of a setting
@@ -53,8 +53,7 @@ module _ (rows : List (List (List ℕ))) (value : Option ℤ) (capacity floor st
   floor_test : (reader : Reader) → IsReader reader → nat_lt (capacity_of reader rows) (floor_of reader rows) ≡ nat_lt capacity floor
   floor_test reader are = rw (sym (capacity_is reader are), sym (floor_is reader are)) refl
 
-  start_test : (reader : Reader) → IsReader reader → (nat_lt (start_of reader rows) (floor_of reader rows) || nat_lt (capacity_of reader rows) (start_of reader rows))
-      ≡ (nat_lt start floor || nat_lt capacity start)
+  start_test : (reader : Reader) → IsReader reader → is_outside (start_of reader rows) (floor_of reader rows) (capacity_of reader rows) ≡ is_outside start floor capacity
   start_test reader are = rw (sym (capacity_is reader are), sym (start_too reader are), sym (floor_is reader are)) refl
 
   end_test : (reader : Reader) → IsReader reader → nat_lt (capacity_of reader rows) (end_of reader rows) ≡ nat_lt capacity end
@@ -66,35 +65,28 @@ module _ (rows : List (List (List ℕ))) (value : Option ℤ) (capacity floor st
       test_next _ Missing _ _ (ap is_none (sym (value_is reader are)) ∙ some)
       (test_first _ (Range (row_of rows Floor)) _ (floor_test reader are ∙ below capacity floor above))
 
-  outside : (start < floor) ⊎ ((floor ≤ start) × (capacity < start)) → (nat_lt start floor || nat_lt capacity start) ≡ true
-  outside (inl low) = rw (below start floor low) refl
-  outside (inr high) = rw (not_below start floor high.0, below capacity start high.1) refl
-
-  pub start_outside : is_none value ≡ false → floor ≤ capacity → (start < floor) ⊎ ((floor ≤ start) × (capacity < start))
+  pub start_outside : is_none value ≡ false → floor ≤ capacity → is_outside start floor capacity ≡ true
       → Refuses (λ reader. level_refusals reader rows) (Range (row_of rows Start))
   unfolding level_refusals
   start_outside some fits out reader are =
       test_next _ Missing _ _ (ap is_none (sym (value_is reader are)) ∙ some)
       (test_next _ (Range (row_of rows Floor)) _ _ (floor_test reader are ∙ not_below capacity floor fits)
-      (test_first _ (Range (row_of rows Start)) _ (start_test reader are ∙ outside out)))
+      (test_first _ (Range (row_of rows Start)) _ (start_test reader are ∙ out)))
 
-  inside : floor ≤ start → start ≤ capacity → (nat_lt start floor || nat_lt capacity start) ≡ false
-  inside low high = rw (not_below start floor low, not_below capacity start high) refl
-
-  pub end_above : is_none value ≡ false → floor ≤ capacity → floor ≤ start → start ≤ capacity → capacity < end
+  pub end_above : is_none value ≡ false → floor ≤ capacity → is_outside start floor capacity ≡ false → capacity < end
       → Refuses (λ reader. level_refusals reader rows) (Range (row_of rows End))
   unfolding level_refusals
-  end_above some fits low high above reader are =
+  end_above some fits inside above reader are =
       test_next _ Missing _ _ (ap is_none (sym (value_is reader are)) ∙ some)
       (test_next _ (Range (row_of rows Floor)) _ _ (floor_test reader are ∙ not_below capacity floor fits)
-      (test_next _ (Range (row_of rows Start)) _ _ (start_test reader are ∙ inside low high)
+      (test_next _ (Range (row_of rows Start)) _ _ (start_test reader are ∙ inside)
       (test_first _ (Range (row_of rows End)) _ (end_test reader are ∙ below capacity end above))))
 
-  pub levels_pass : is_none value ≡ false → floor ≤ capacity → floor ≤ start → start ≤ capacity → end ≤ capacity
+  pub levels_pass : is_none value ≡ false → floor ≤ capacity → is_outside start floor capacity ≡ false → end ≤ capacity
       → Passes (λ reader. level_refusals reader rows)
   unfolding level_refusals first_of
-  levels_pass some fits low high last reader are =
+  levels_pass some fits inside last reader are =
       test_next _ Missing _ _ (ap is_none (sym (value_is reader are)) ∙ some)
       (test_next _ (Range (row_of rows Floor)) _ _ (floor_test reader are ∙ not_below capacity floor fits)
-      (test_next _ (Range (row_of rows Start)) _ _ (start_test reader are ∙ inside low high)
+      (test_next _ (Range (row_of rows Start)) _ _ (start_test reader are ∙ inside)
       (test_next _ (Range (row_of rows End)) [] None (end_test reader are ∙ not_below capacity end last) refl)))

@@ -38,14 +38,14 @@ setting_refusals reader rows row setting =
 -- ---- a row that has a mode
 
 -- the mode of these numbers, where its levels are in order
-abbrev pub mode_at : List ℕ → Option ℤ → Option ℤ → Option ℕ → Option ℕ → Option Mode
+abbrev pub mode_at : (name : List ℕ) (change grid : Option ℤ) (low high : Option ℕ) → Option Mode
 mode_at name (Some change) (Some grid) (Some low) (Some high) =
     if nat_lt high low then None else Some (record { name = name; change = change; grid = grid; low = low; high = high })
 mode_at name change grid low high = None
 
 -- the mode of a name and numbers, where all are in range: it changes the battery by at most 255 levels, it adds at most 10^9 Wh in size to
 -- the net reading, and it begins from a level to a level that isn't below it, both from 0 to 255
-abbrev pub mode_of : List ℕ → Result ℤ DecimalFault → Result ℤ DecimalFault → Result ℤ DecimalFault → Result ℤ DecimalFault → Option Mode
+abbrev pub mode_of : (name : List ℕ) (change grid low high : Result ℤ DecimalFault) → Option Mode
 mode_of name change grid low high =
     mode_at name (change_within change) (grid_within grid) (level_within low) (level_within high)
 
@@ -56,15 +56,16 @@ mode_in reader cells =
     (level_number reader 255 (cell_in cells 5))
 
 -- whether one of these numbers can't be read
-abbrev pub are_unread : Result ℤ DecimalFault → Result ℤ DecimalFault → Result ℤ DecimalFault → Result ℤ DecimalFault → Bool
+abbrev pub are_unread : (change grid low high : Result ℤ DecimalFault) → Bool
 are_unread change grid low high = is_unread change || is_unread grid || is_unread low || is_unread high
 
 -- whether one of a row's numbers can't be read
 abbrev pub has_unread : Reader → List (List ℕ) → Bool
 has_unread reader cells =
-    are_unread (reader (cell_in cells 2)) (reader (cell_in cells 3)) (level_number reader 0 (cell_in cells 4)) (level_number reader 255 (cell_in cells 5))
+    are_unread (reader (cell_in cells 2)) (reader (cell_in cells 3)) (level_number reader 0 (cell_in cells 4))
+    (level_number reader 255 (cell_in cells 5))
 
--- the modes of so many data rows, with that of one row more
+-- a list of one mode, or of none
 abbrev pub listed : Option Mode → List Mode
 listed None = []
 listed (Some mode) = mode ∷ []
@@ -159,12 +160,16 @@ end_of reader rows = level reader rows End (start_of reader rows)
 abbrev pub row_of : List (List (List ℕ)) → Setting → ℕ
 row_of rows setting = unwrap_or (first_row rows setting) 0
 
+-- whether a level is below the floor or above the capacity
+abbrev pub is_outside : ℕ → ℕ → ℕ → Bool
+is_outside level floor capacity = nat_lt level floor || nat_lt capacity level
+
 -- why levels are refused, in order
 unfoldable pub level_refusals : Reader → List (List (List ℕ)) → List (Option BatteryFault)
 level_refusals reader rows =
     when (is_none (value_of reader rows Capacity)) Missing
     ∷ when (nat_lt (capacity_of reader rows) (floor_of reader rows)) (Range (row_of rows Floor))
-    ∷ when (nat_lt (start_of reader rows) (floor_of reader rows) || nat_lt (capacity_of reader rows) (start_of reader rows)) (Range (row_of rows Start))
+    ∷ when (is_outside (start_of reader rows) (floor_of reader rows) (capacity_of reader rows)) (Range (row_of rows Start))
     ∷ when (nat_lt (capacity_of reader rows) (end_of reader rows)) (Range (row_of rows End))
     ∷ []
 

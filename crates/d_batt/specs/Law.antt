@@ -8,7 +8,8 @@ use Rattle.d_batt.specs.BatteryFile.{IsOutcome}
 abbrev pub HasOneOutcome : Type 0
 HasOneOutcome =
     (rows : List (List (List ℕ)))
-    → (outcome : Result Storage BatteryFault) × IsOutcome rows outcome × ((other : Result Storage BatteryFault) → IsOutcome rows other → other ≡ outcome)
+    → (outcome : Result Storage BatteryFault) × IsOutcome rows outcome
+    × ((other : Result Storage BatteryFault) → IsOutcome rows other → other ≡ outcome)
 
 -- what is accepted is a battery
 abbrev pub AcceptsBatteries : Type 0

@@ -46,7 +46,7 @@ pub(crate) fn read_levels(table: &Table) -> Result<Levels, BatteryFault>
     if floor > capacity {
         return Err(out_of_range(table, Setting::Floor));
     }
-    if start < floor || start > capacity {
+    if is_outside(start, floor, capacity) {
         return Err(out_of_range(table, Setting::Start));
     }
     if end > capacity {
@@ -58,6 +58,13 @@ pub(crate) fn read_levels(table: &Table) -> Result<Levels, BatteryFault>
         start,
         end,
     })
+}
+
+/// Whether a level is below the floor or above the capacity.
+fn is_outside(level: u8, floor: u8, capacity: u8) -> bool
+    ensures { result ≡ spec.is_outside level floor capacity }
+{
+    level < floor || level > capacity
 }
 
 /// The fault of a setting that is out of its range, by its row.

@@ -16,25 +16,25 @@ returns-then-floor-capacity-clause-refusals c =
     c.value_of.ensures.value c.level-capacity.ensures c.level-floor.ensures c.level-start.ensures c.level-end.ensures
     (none_is c.value_of.result c.is_none.result c.is_none.ensures ∙ c.if-is_none.false) c.if-floor-capacity.true))
 
-pub returns-then-start-floor-clause-refusals : goal.returns-then-start-floor-clause-refusals
-returns-then-start-floor-clause-refusals c =
-    inr (subst (Refuses (λ reader. level_refusals reader c.args.table.now)) (sym c.out_of_range-then-start-floor.ensures)
+pub returns-then-is_outside-clause-refusals : goal.returns-then-is_outside-clause-refusals
+returns-then-is_outside-clause-refusals c =
+    inr (subst (Refuses (λ reader. level_refusals reader c.args.table.now)) (sym c.out_of_range-then-is_outside.ensures)
     (start_outside c.args.table.now c.value_of.result c.level-capacity.result c.level-floor.result c.level-start.result c.level-end.result
     c.value_of.ensures.value c.level-capacity.ensures c.level-floor.ensures c.level-start.ensures c.level-end.ensures
-    (none_is c.value_of.result c.is_none.result c.is_none.ensures ∙ c.if-is_none.false) c.if-floor-capacity.false c.then-start-floor.either))
+    (none_is c.value_of.result c.is_none.result c.is_none.ensures ∙ c.if-is_none.false) c.if-floor-capacity.false (sym c.is_outside.ensures ∙ c.if-is_outside.true)))
 
 pub returns-then-end-capacity-clause-refusals : goal.returns-then-end-capacity-clause-refusals
 returns-then-end-capacity-clause-refusals c =
     inr (subst (Refuses (λ reader. level_refusals reader c.args.table.now)) (sym c.out_of_range-then-end-capacity.ensures)
     (end_above c.args.table.now c.value_of.result c.level-capacity.result c.level-floor.result c.level-start.result c.level-end.result
     c.value_of.ensures.value c.level-capacity.ensures c.level-floor.ensures c.level-start.ensures c.level-end.ensures
-    (none_is c.value_of.result c.is_none.result c.is_none.ensures ∙ c.if-is_none.false) c.if-floor-capacity.false c.if-start-floor.false c.if-start-capacity.false c.if-end-capacity.true))
+    (none_is c.value_of.result c.is_none.result c.is_none.ensures ∙ c.if-is_none.false) c.if-floor-capacity.false (sym c.is_outside.ensures ∙ c.if-is_outside.false) c.if-end-capacity.true))
 
 pub returns-clause-refusals : goal.returns-clause-refusals
 returns-clause-refusals c =
     levels_pass c.args.table.now c.value_of.result c.level-capacity.result c.level-floor.result c.level-start.result c.level-end.result
     c.value_of.ensures.value c.level-capacity.ensures c.level-floor.ensures c.level-start.ensures c.level-end.ensures
-    (none_is c.value_of.result c.is_none.result c.is_none.ensures ∙ c.if-is_none.false) c.if-floor-capacity.false c.if-start-floor.false c.if-start-capacity.false c.if-end-capacity.false
+    (none_is c.value_of.result c.is_none.result c.is_none.ensures ∙ c.if-is_none.false) c.if-floor-capacity.false (sym c.is_outside.ensures ∙ c.if-is_outside.false) c.if-end-capacity.false
 
 pub returns-clause-levels : goal.returns-clause-levels
 returns-clause-levels c = record {
