@@ -1,15 +1,14 @@
 -- Whether a cell is a start is decided: its digits tell the only one that it can be.
-use Rattle.std.proofs.Common.{◌≡◌, ◌∙◌, ◌⊎◌, inl, inr, ◌+◌, ◌-◌, ◌*◌, ◌/◌, ◌%◌, ◌<◌, ◌≤◌, ℕ, ℤ, pos, unsigned_abs, Bool, true, false, List, [], ◌∷◌, ◌++◌, slice_index_or, bytes_eq, codes, refl, sym, ap, subst, arith}
+use Rattle.std.proofs.Common.{◌≡◌, ◌∙◌, ◌⊎◌, inl, inr, ◌+◌, ◌-◌, ◌*◌, ◌/◌, ◌%◌, ◌<◌, ◌≤◌, ℕ, ℤ, pos, unsigned_abs, true, false, List, [], ◌∷◌, ◌++◌, slice_index_or, bytes_eq, codes, refl, sym, ap, subst, arith}
 use Rattle.std.proofs.lemmas.Bool.{cases_Bool, cases_lt}
 use Rattle.std.proofs.lemmas.Int.{ints}
 use Rattle.std.proofs.lemmas.Slice.Eq.{bytes_eq-Decides}
 use Rattle.jiff_core.specs.Calendar.{days_in_month}
-use Rattle.d_cal.specs.Calendar.{IsMonth, IsDayOf}
 use Rattle.d_cal.specs.declared.start.Start.{Start}
 use Rattle.d_cal.specs.Starts.{IsInCalendar, IsMoment, IsStart, date_text, time_text}
 use Rattle.d_cal.specs.StartCells.{HasPair}
 use Rattle.d_cal.proofs.StartLaws.{year_of_size}
-use Rattle.d_cal.proofs.StartPairs.{two_at, pairs, sizes}
+use Rattle.d_cal.proofs.StartPairs.{two_at, pairs}
 
 -- a fact holds or not
 abbrev IsDecided : Type 0 → Type 0
@@ -70,9 +69,9 @@ made year month day minute = record { year = pos year; month = month; day = day;
 calendar_decided : (year month day minute : ℕ) → IsDecided (IsInCalendar (made year month day minute))
 unfolding made
 calendar_decided year month day minute = same_fact there back (
-  both (both (below_decided 0 year) (below_decided year 10000))
-  (both (both (below_decided 0 month) (below_decided month 13))
-  (both (both (below_decided 0 day) (below_decided day (days_in_month (pos year) month + 1))) (below_decided minute 1440))))
+    both (both (below_decided 0 year) (below_decided year 10000))
+    (both (both (below_decided 0 month) (below_decided month 13))
+    (both (both (below_decided 0 day) (below_decided day (days_in_month (pos year) month + 1))) (below_decided minute 1440))))
   where
     Bounds : Type 0
     Bounds = ((0 < year) × (year < 10000)) × (((0 < month) × (month < 13)) × (((0 < day) × (day < days_in_month (pos year) month + 1)) × (minute < 1440)))
@@ -92,8 +91,10 @@ calendar_decided year month day minute = same_fact there back (
     back : IsInCalendar (made year month day minute) → Bounds
     back is = (
       (let low = is.month.after_year_0 in omega (arith, ints, low), let high = is.month.before_year_10000 in omega (arith, ints, high)),
-      ((omega (arith, is.month.from_january), omega (arith, is.month.to_december)),
-      ((omega (arith, is.day.from_first), omega (arith, is.day.to_last)), is.minute)),
+      (
+        (omega (arith, is.month.from_january), omega (arith, is.month.to_december)),
+        ((omega (arith, is.day.from_first), omega (arith, is.day.to_last)), is.minute),
+      ),
     )
 
 -- the number of the two digits at a place

@@ -1,5 +1,5 @@
 -- Accepted readings are those of a month.
-use Rattle.std.proofs.Common.{◌≡◌, ◌∙◌, ◌⊎◌, inl, inr, ◌+◌, ◌-◌, ◌*◌, ◌/◌, ◌^◌, ◌==◌, ◌||◌, ◌&&◌, ◌<◌, ◌≤◌, not, nat_lt, ℕ, ℤ, pos, Bool, true, false, IsTrue, List, [], ◌∷◌, ◌++◌, map, drop, length, get_or, All, Option, None, Some, Result, Ok, Err, refl, sym, ap, subst, arith}
+use Rattle.std.proofs.Common.{◌≡◌, ◌∙◌, ◌*◌, ◌^◌, ◌==◌, ◌&&◌, not, nat_lt, ℕ, ℤ, Bool, true, false, List, ◌++◌, drop, get_or, Option, None, Some, Result, Ok, Err, refl, ap, subst, arith}
 use Rattle.std.specs.Option.{is_none}
 use Rattle.std.proofs.lemmas.Bool.Decides.{nat_tests}
 use Rattle.std.proofs.lemmas.Int.{ints}
@@ -16,7 +16,7 @@ use Rattle.d_text.specs.declared.decimal.DecimalFault.{DecimalFault}
 use Rattle.d_text.proofs.DecimalLaws.{decimal_within}
 use Rattle.d_meter.specs.declared.fault.MeterFault.{MeterFault}
 use Rattle.d_meter.specs.Meters.{Metered, IsReadings}
-use Rattle.d_meter.specs.Readings.{MeterReader, IsMeterReader, IsStartOrNone, IsNetOrFault, start_at, known, is_header, begins_month, is_step, interval_count, month_refusals, head_refusals, all_row_refusals, readings_of, refused_or, outcome_of, net_of, net_or_0, row_count, IsOutcome}
+use Rattle.d_meter.specs.Readings.{MeterReader, IsMeterReader, IsStartOrNone, IsNetOrFault, start_at, known, is_header, begins_month, is_step, interval_count, month_refusals, head_refusals, all_row_refusals, readings_of, refused_or, outcome_of, net_of, net_or_0, row_count}
 use Rattle.d_meter.specs.Law.{AcceptsMonths}
 use Rattle.d_meter.proofs.OneReader.{one_reader}
 use Rattle.d_meter.proofs.Sizes.{fills}

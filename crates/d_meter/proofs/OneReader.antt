@@ -7,7 +7,7 @@ use Rattle.d_cal.proofs.StartFound.{start_found}
 use Rattle.d_text.specs.Fault.{IsDecimalOf, IsDecimalFault}
 use Rattle.d_text.specs.declared.decimal.DecimalFault.{DecimalFault}
 use Rattle.d_text.proofs.OutcomeLaws.{decimal_outcome}
-use Rattle.d_meter.specs.Readings.{MeterReader, IsMeterReader, IsStartOrNone, IsNetOrFault, outcome_of, IsOutcome}
+use Rattle.d_meter.specs.Readings.{MeterReader, IsMeterReader, IsStartOrNone, IsNetOrFault, outcome_of}
 use Rattle.d_meter.specs.Law.{HasOneReader, HasOneOutcome}
 use Rattle.d_meter.proofs.CellFacts.{cell_start_once, net_once}
 

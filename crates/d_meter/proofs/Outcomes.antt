@@ -1,5 +1,5 @@
 -- The outcome of a table by its first refusal.
-use Rattle.std.proofs.Common.{◌≡◌, ◌∙◌, ℕ, ℤ, List, [], ◌∷◌, ◌++◌, map, drop, Option, None, Some, Result, Ok, Err, inl, inr, ◌⊎◌, refl, sym, ap}
+use Rattle.std.proofs.Common.{◌≡◌, ◌∙◌, ℕ, ℤ, List, ◌++◌, map, drop, Option, Ok, Err, inl, inr, ◌⊎◌, refl, sym, ap}
 use Rattle.d_list.specs.Firsts.{first_of, each}
 use Rattle.d_list.proofs.Firsts.{none_before, some_before}
 use Rattle.d_meter.specs.declared.fault.MeterFault.{MeterFault}

@@ -1,15 +1,12 @@
 -- What is refused of a row.
-use Rattle.std.proofs.Common.{◌≡◌, ◌∙◌, ℕ, ℤ, pos, ◌+◌, ◌-◌, ◌<◌, ◌≤◌, suc, Bool, true, false, not, List, [], ◌∷◌, ◌++◌, map, take, drop, length, get_or, Option, None, Some, Result, Ok, Err, refl, sym, ap, arith}
-use Rattle.std.proofs.Math.Seq.{take-suc}
-use Rattle.std.proofs.lemmas.List.{map-append, length-drop}
+use Rattle.std.proofs.Common.{◌≡◌, ℕ, ℤ, true, false, List, [], ◌∷◌, None, Some, Result, Ok, Err, refl, sym}
 use Rattle.d_cal.specs.declared.start.Start.{Start}
 use Rattle.d_cal.specs.Starts.{start_of}
 use Rattle.d_text.specs.declared.decimal.DecimalFault.{DecimalFault}
 use Rattle.d_list.specs.Firsts.{first_of}
-use Rattle.d_table.specs.Table.{row_at}
 use Rattle.d_meter.specs.declared.fault.MeterFault.{MeterFault}
 use Rattle.d_meter.specs.declared.fault.MeterFault.TheVariants as fault
-use Rattle.d_meter.specs.Readings.{MeterReader, start_at, net_at, is_same, row_refusals, net_refusal, net_or_0, net_of}
+use Rattle.d_meter.specs.Readings.{MeterReader, start_at, net_at, is_same, row_refusals, net_refusal}
 
 module _ (reader : MeterReader) (rows : List (List (List ℕ))) (year : ℤ) (number minutes row : ℕ) where
   pub no_start : start_at reader rows row ≡ None → first_of (row_refusals reader rows year number minutes row) ≡ Some (fault.Start row)

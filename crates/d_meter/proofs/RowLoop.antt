@@ -1,5 +1,5 @@
 -- The rows one after the other.
-use Rattle.std.proofs.Common.{◌≡◌, ◌∙◌, ℕ, ℤ, ◌+◌, ◌-◌, ◌<◌, suc, List, [], ◌∷◌, ◌++◌, map, take, drop, length, get_or, All, Option, None, Some, Result, Ok, Err, refl, sym, ap, subst, arith, inl, inr}
+use Rattle.std.proofs.Common.{◌≡◌, ◌∙◌, ℕ, ℤ, ◌+◌, ◌<◌, suc, List, [], ◌∷◌, ◌++◌, map, take, drop, length, get_or, All, Option, Ok, refl, sym, ap, subst, arith}
 use Rattle.std.proofs.Math.Seq.{take-suc}
 use Rattle.std.proofs.lemmas.List.{map-append, length-append, length-drop, take_all}
 use Rattle.std.proofs.lemmas.List.Elements.{All-nil, All-push}
@@ -9,8 +9,8 @@ use Rattle.d_list.specs.Firsts.{first_of, each}
 use Rattle.d_list.proofs.Firsts as firsts
 use Rattle.d_table.specs.Table.{row_at}
 use Rattle.d_meter.specs.declared.fault.MeterFault.{MeterFault}
-use Rattle.d_meter.specs.Readings.{MeterReader, IsMeterReader, net_at, net_of, net_or_0, row_count}
-use Rattle.d_meter.specs.Checks.{Reads, Passes, Refuses}
+use Rattle.d_meter.specs.Readings.{MeterReader, net_at, net_of, net_or_0, row_count}
+use Rattle.d_meter.specs.Checks.{Passes, Refuses}
 
 -- no row is looked at yet
 pub none_yet : (list : MeterReader → ℕ → List (Option MeterFault)) → Passes (λ reader. each 0 (list reader))

@@ -1,10 +1,9 @@
 -- Refusals behind a test, and checks one after the other.
-use Rattle.std.proofs.Common.{◌≡◌, ◌∙◌, ℕ, Bool, true, false, List, [], ◌∷◌, Option, None, Some, Result, Ok, Err, refl, inl, inr, ◌⊎◌}
+use Rattle.std.proofs.Common.{◌≡◌, ◌∙◌, Bool, true, false, List, ◌∷◌, Option, None, Some, Result, Ok, Err, refl}
 use Rattle.d_list.specs.Firsts.{first_of, when}
 use Rattle.d_meter.specs.declared.fault.MeterFault.{MeterFault}
-use Rattle.d_meter.specs.declared.fault.MeterFault.TheVariants as fault
 use Rattle.d_meter.specs.Readings.{MeterReader, IsMeterReader}
-use Rattle.d_meter.specs.Checks.{Checks, ChecksOrNot, Decides, Refuses}
+use Rattle.d_meter.specs.Checks.{Checks, Decides}
 
 -- a test that holds refuses, and one that doesn't leaves it to the others
 pub comes : (test : Bool) (refused : MeterFault) (rest : List (Option MeterFault)) → test ≡ true → first_of (when test refused ∷ rest) ≡ Some refused

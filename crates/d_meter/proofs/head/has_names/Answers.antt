@@ -1,4 +1,3 @@
-use Rattle.std.proofs.Common.{◌≡◌, ℕ, List, Bool, true, false, IsTrue, ◌↔◌, map, sym, ap}
 use Rattle.d_table.specs.Table.{row_at}
 use Rattle.d_meter.proofs.HeadFacts.{named}
 use Rattle.d_meter.proofs.head.has_names.Goals as goal

@@ -1,4 +1,4 @@
-use Rattle.std.proofs.Common.{◌≡◌, ◌*◌, ◌/◌, ℕ, sym, ◌∙◌, rules}
+use Rattle.std.proofs.Common.{◌*◌, ◌/◌, sym, ◌∙◌, rules}
 use Rattle.d_meter.proofs.HeadFacts.{not_begun, no_step, other_count, right_count}
 use Rattle.d_meter.proofs.head.head_of.Goals as goal
 

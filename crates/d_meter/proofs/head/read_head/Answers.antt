@@ -1,4 +1,4 @@
-use Rattle.std.proofs.Common.{◌≡◌, sym, ◌∙◌}
+use Rattle.std.proofs.Common.{sym}
 use Rattle.d_meter.specs.Readings.{head_refusals, month_refusals}
 use Rattle.d_meter.proofs.Tests.{decided}
 use Rattle.d_meter.proofs.HeadFacts.{other_header, few_rows, no_first, no_second, both_starts}

@@ -1,4 +1,4 @@
-use Rattle.std.proofs.Common.{◌≡◌, ◌∙◌, ◌*◌, ℕ, inr, ap}
+use Rattle.std.proofs.Common.{◌∙◌, ◌*◌, ℕ, inr, ap}
 use Rattle.std.proofs.lemmas.Result.{err_from_is_err_and}
 use Rattle.d_meter.proofs.Outcomes.{head_refused, rows_refused, all_read}
 use Rattle.d_meter.proofs.read.read_meter.Goals as goal

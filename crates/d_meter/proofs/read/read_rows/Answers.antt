@@ -1,7 +1,6 @@
-use Rattle.std.proofs.Common.{◌≡◌, ◌<◌, ◌^◌, ℕ, List, length, Option, None, arith, refl, sym, ap, ◌∙◌, subst, inr, rules}
-use Rattle.std.proofs.lemmas.List.{length-append}
+use Rattle.std.proofs.Common.{◌≡◌, ◌^◌, ℕ, List, length, Option, arith, sym, ap, subst, inr}
 use Rattle.std.proofs.lemmas.Result.{err_from_is_err_and}
-use Rattle.d_list.specs.Firsts.{first_of, each}
+use Rattle.d_list.specs.Firsts.{each}
 use Rattle.d_meter.specs.declared.fault.MeterFault.{MeterFault}
 use Rattle.d_meter.specs.Readings.{MeterReader, row_refusals, row_count}
 use Rattle.d_meter.specs.Checks.{Passes}

@@ -1,4 +1,4 @@
-use Rattle.std.proofs.Common.{◌≡◌, ◌∙◌, sym, ap}
+use Rattle.std.proofs.Common.{◌∙◌, sym, ap}
 use Rattle.d_meter.proofs.CellFacts.{net_read}
 use Rattle.d_meter.proofs.row.net_at.Goals as goal
 

@@ -1,4 +1,3 @@
-use Rattle.std.proofs.Common.{◌≡◌, ◌∙◌, sym, ap}
 use Rattle.d_meter.specs.Readings.{net_at}
 use Rattle.d_meter.proofs.RowFacts.{net_passes, net_refuses}
 use Rattle.d_meter.proofs.row.read_net.Goals as goal

@@ -1,4 +1,4 @@
-use Rattle.std.proofs.Common.{◌≡◌, [], ◌∷◌, sym, ◌∙◌}
+use Rattle.std.proofs.Common.{[], ◌∷◌, sym, ◌∙◌}
 use Rattle.d_meter.specs.Readings.{row_refusals, net_refusal, net_at}
 use Rattle.d_meter.proofs.Tests.{checked}
 use Rattle.d_meter.proofs.RowFacts.{no_start, not_due, due}

@@ -1,4 +1,4 @@
-use Rattle.std.proofs.Common.{◌≡◌, ◌∙◌, sym, ap}
+use Rattle.std.proofs.Common.{◌∙◌, sym, ap}
 use Rattle.d_meter.proofs.CellFacts.{cell_start_read}
 use Rattle.d_meter.proofs.row.start_at.Goals as goal
 
