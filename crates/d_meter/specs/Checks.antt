@@ -3,10 +3,10 @@ use Rattle.std.specs.Prelude.{◌≡◌, ◌⊎◌, ℕ, ℤ, ◌*◌, List, Opt
 use Rattle.jiff_core.specs.Calendar.{days_in_month}
 use Rattle.d_num.specs.Amount.{IsReadingLength}
 use Rattle.d_cal.specs.declared.start.Start.{Start}
-use Rattle.d_list.specs.Firsts.{first_of}
+use Rattle.d_list.specs.Firsts.{first_of, each}
 use Rattle.d_meter.specs.declared.fault.MeterFault.{MeterFault}
 use Rattle.d_meter.specs.declared.fault.MeterFault.TheVariants as fault
-use Rattle.d_meter.specs.Readings.{MeterReader, IsMeterReader, start_at, known}
+use Rattle.d_meter.specs.Readings.{MeterReader, IsMeterReader, start_at, known, row_count, row_refusals}
 
 -- a value is this, whichever way the cells are read
 abbrev pub Reads : {A : Type 0} → (MeterReader → A) → A → Type 0
@@ -29,6 +29,10 @@ Checks refusals (Err refused) = Refuses refusals refused
 abbrev pub ChecksOrNot : {A : Type 0} → (MeterReader → List (Option MeterFault)) → Result A MeterFault → Type 0
 ChecksOrNot refusals (Ok value) = Passes refusals
 ChecksOrNot refusals (Err refused) = (refused ≡ fault.Memory) ⊎ Refuses refusals refused
+
+-- so a check of all rows of a month that may want memory
+abbrev pub ChecksRows : {A : Type 0} → List (List (List ℕ)) → ℤ → ℕ → ℕ → Result A MeterFault → Type 0
+ChecksRows rows year number minutes result = ChecksOrNot (λ reader. each (row_count rows) (row_refusals reader rows year number minutes)) result
 
 -- of refusals that no cell has to be read for, none comes
 abbrev pub Decides : {A : Type 0} → List (Option MeterFault) → Result A MeterFault → Type 0

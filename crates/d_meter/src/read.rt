@@ -3,9 +3,8 @@
 ghost use Rattle.std.specs.Prelude.{◌≡◌, ◌⊎◌, ◌^◌, length, map, drop, All, Ok, Err, IfOk, IfErr};
 ghost use Rattle.d_num.specs.Amount.{IsWithin};
 ghost use Rattle.d_table.specs.Table.{row_at};
-ghost use Rattle.d_list.specs.Firsts.{each};
-ghost use Rattle.d_meter.specs.Readings.{row_count, row_refusals, net_of, IsOutcome};
-ghost use Rattle.d_meter.specs.Checks.{ChecksOrNot, Reads, FitsMonth};
+ghost use Rattle.d_meter.specs.Readings.{row_count, net_of, IsOutcome};
+ghost use Rattle.d_meter.specs.Checks.{ChecksRows, Reads, FitsMonth};
 ghost use Rattle.d_meter.specs.Shown.{metered_of};
 
 use crate::fault::MeterFault;
@@ -37,7 +36,7 @@ pub fn read_meter(alloc: Global, table: &Table) -> Result<Meter, MeterFault>
 fn read_rows(alloc: Global, table: &Table, head: Head) -> Result<NetList, MeterFault>
     requires columns { length (row_at table.now 0) ≡ 2 }
     requires fits { FitsMonth (row_count table.now) head.month.year head.month.number head.minutes }
-    ensures refusals { ChecksOrNot (λ reader. each (row_count table.now) (row_refusals reader table.now head.month.year head.month.number head.minutes)) result }
+    ensures refusals { ChecksRows table.now head.month.year head.month.number head.minutes result }
     ensures net { IfOk result (λ net. Reads (λ reader. map (net_of reader) (drop 1 table.now)) net) }
     ensures count { IfOk result (λ net. length net ≡ row_count table.now) }
     ensures small { IfOk result (All (IsWithin (10 ^ 9))) }
