@@ -32,14 +32,15 @@ const FRONT: &str = "dispatch tariff\nlabel seen\nrule instantaneous\n\
     energy weekday 1 0 0 0 0 0 0 0 0 0 0 0 0 0 0 0 0 0 0 0 0 0 0 0 0\n";
 
 // The last of the lines of the hours, and those behind it.
-const BACK: &str = "flat months 0 0 1 0 0 0 0 0 0 0 0 0\n\
+const BACK: &str = "demand weekend 12 0 0 0 0 0 0 0 0 0 0 0 0 0 0 0 0 0 0 0 0 0 0 0 4\n\
+    flat months 0 0 1 0 0 0 0 0 0 0 0 0\n\
     ratchet 50000000000000000000 50000000000000000000 50000000000000000000 50000000000000000000 50000000000000000000 \
     50000000000000000000 50000000000000000000 50000000000000000000 50000000000000000000 50000000000000000000 50000000000000000000 \
     50000000000000000000\n\
     fixed 12.50 year\nminimum 1.00 day\nignored caf??\n";
 
 #[test]
-fn a_tariff_is_shown_with_all_that_it_says(rt: HostRuntime) -> Result<(), Fail> {
+fn shows_the_beginning_and_the_end_of_a_tariff(rt: HostRuntime) -> Result<(), Fail> {
     let alloc = rt.alloc();
     let Ok(table) = read_table(alloc, RECORD.as_bytes()) else {
         return Err(Fail::new("a file that is no table"));
