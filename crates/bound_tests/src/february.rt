@@ -4,11 +4,11 @@
 ghost use Rattle.std.specs.Prelude.{◌≡◌, ◌≤◌, ◌^◌, IfOk};
 ghost use Rattle.d_num.specs.Amount.{IsUpTo};
 
+use d_batt::{Battery, Mode, ModeList, Name};
 use d_bill::{Problem, Tally};
 use d_bound::cheapest_schedule;
 use d_cal::Month;
-use d_list::Items;
-use d_model::{Battery, Meter, Mode, Name};
+use d_meter::{Meter, NetList};
 use d_num::{NoMemory, Watt, Wh};
 use d_table::read_table;
 use d_tariff::Tariff;
@@ -46,7 +46,7 @@ fn tariff(alloc: Global) -> Result<Tariff, Fail> {
 fn february(alloc: Global) -> Result<Meter, NoMemory>
     ensures { IfOk result (λ m. m.minutes ≡ 60) }
 {
-    let mut net = Items::new(alloc);
+    let mut net = NetList::new(alloc);
     for _ in 0..672u16 {
         net.add(Wh::new(1000).unwrap())?;
     }
@@ -78,7 +78,7 @@ fn battery(alloc: Global, end: u8, max_import: Wh) -> Result<Battery, NoMemory>
     requires end { end ≤ 4 }
     requires import { IsUpTo (10 ^ 10) max_import }
 {
-    let mut modes = Items::new(alloc);
+    let mut modes = ModeList::new(alloc);
     modes.add(mode(Name::new(b"idle").unwrap(), 0, Wh::new(0).unwrap()))?;
     modes.add(mode(Name::new(b"charge").unwrap(), 1, Wh::new(1000).unwrap()))?;
     modes.add(mode(

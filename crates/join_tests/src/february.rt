@@ -3,10 +3,10 @@
 ghost use Rattle.std.specs.Prelude.{◌≡◌, ◌^◌, IfOk};
 ghost use Rattle.d_num.specs.Amount.{IsWithin};
 
+use d_batt::{Battery, Mode, ModeList, Name};
 use d_bill::{Problem, Tally};
 use d_cal::Month;
-use d_list::Items;
-use d_model::{Battery, Meter, Mode, Name};
+use d_meter::{Meter, NetList};
 use d_num::{Money, NoMemory, Watt, Wh};
 use d_table::read_table;
 use d_tariff::Tariff;
@@ -18,7 +18,7 @@ use std::test::Fail;
 fn february(alloc: Global, reading: Reading) -> Result<Meter, NoMemory>
     ensures { IfOk result (λ m. m.minutes ≡ 60) }
 {
-    let mut net = Items::new(alloc);
+    let mut net = NetList::new(alloc);
     for hour in 0..672 {
         net.add(reading.of(hour))?;
     }
@@ -61,7 +61,7 @@ impl Reading {
 
 /// A battery at level 1 of 4, which rests in mode 0, and in mode 1 goes down a level and sends 3000 Wh.
 fn battery(alloc: Global) -> Result<Battery, NoMemory> {
-    let mut modes = Items::new(alloc);
+    let mut modes = ModeList::new(alloc);
     modes.add(mode(Name::new(b"idle").unwrap(), 0, Wh::new(0).unwrap()))?;
     modes.add(mode(
         Name::new(b"discharge").unwrap(),
