@@ -1,5 +1,5 @@
 -- What can be decided over plain values: that it holds, or that it doesn't.
-use Rattle.std.proofs.Common.{◌≡◌, ◌⊎◌, inl, inr, ℕ, zero, suc, ◌<◌, ◌≤◌, Bool, true, false, ◌==◌, ltb, ℤ, pos, negsuc, ◌≤ℤ◌, List, [], ◌∷◌, length, Decides, bytes_eq, refl, sym, ◌∙◌, arith, Option, None, Some, true≢false}
+use Rattle.std.proofs.Common.{◌≡◌, ◌⊎◌, inl, inr, ℕ, suc, ◌<◌, ◌≤◌, Bool, true, false, ◌==◌, ltb, ℤ, pos, negsuc, ◌≤ℤ◌, List, Decides, bytes_eq, refl, sym, arith, true≢false}
 use Rattle.std.proofs.lemmas.Bool.Decides.{Decides-eqb, Decides-ltb, Decides-int_eq}
 use Rattle.std.proofs.lemmas.Slice.Eq.{bytes_eq-Decides, slice_eq-Decides}
 use Rattle.std.specs.Cmp.Lexicographic.{pointwise}

@@ -12,9 +12,9 @@ ghost use Rattle.d_bill.specs.Join as spec;
 
 use crate::problem::Problem;
 use crate::tally::PERIODS;
+use d_batt::Battery;
 use d_cal::{Month, Schedule};
 use d_list::Items;
-use d_batt::Battery;
 use d_meter::Meter;
 use d_num::{NoMemory, Watt};
 use d_tariff::{Period, Periods, Tariff};

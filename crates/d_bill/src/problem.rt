@@ -1,9 +1,9 @@
 //! The problem that a plan is made for.
 
 use crate::arc::Interval;
+use d_batt::Battery;
 use d_cal::Month;
 use d_list::Items;
-use d_batt::Battery;
 use d_meter::NetList;
 use d_num::{Money, Rate, Wh};
 use d_tariff::{Period, Periods};

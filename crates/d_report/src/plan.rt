@@ -11,8 +11,8 @@ ghost use Rattle.d_report.specs.Plans as spec;
 
 use crate::charges::put_bill;
 use crate::lines::{put_line, put_money, put_title};
-use d_bill::{Problem, Tally};
 use d_batt::Mode;
+use d_bill::{Problem, Tally};
 use d_cal::start_text;
 use d_num::{Money, NoMemory};
 use std::alloc::{AllocError, Global};

@@ -10,8 +10,8 @@ ghost use Rattle.d_run.specs.Answer.{IsPlannable, no_storage};
 ghost use Rattle.d_run.specs.Replies.{EndsBy, problem_of};
 
 use crate::fault::{Fault, Refusal};
-use d_bill::Problem;
 use d_batt::{Battery, MOST_LIMIT, Mode, ModeList, Name};
+use d_bill::Problem;
 use d_meter::Meter;
 use d_num::{NoMemory, Wh};
 use d_tariff::Tariff;

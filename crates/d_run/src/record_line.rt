@@ -7,8 +7,8 @@ ghost use Rattle.d_report.specs.Shown.{behind_blank};
 ghost use Rattle.d_run.specs.RecordText.{record_text, column_text};
 ghost use Rattle.d_urdb.specs.RefusalNames.{refusal_name};
 
-use d_report::{put_behind_blank, put_shown};
 use d_num::NoMemory;
+use d_report::{put_behind_blank, put_shown};
 use d_table::Table;
 use d_urdb::{Refused, refusal_name};
 use std::alloc::{AllocError, Global};

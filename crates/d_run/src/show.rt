@@ -18,11 +18,7 @@ use d_words::Show;
 use std::alloc::Global;
 
 /// Prepares the answer to words that ask to see a record's tariff.
-pub fn answer_show<D: Desk>(
-    alloc: Global,
-    desk: &mut D,
-    show: &Show<'_>,
-) -> Result<Reply, Fault>
+pub fn answer_show<D: Desk>(alloc: Global, desk: &mut D, show: &Show<'_>) -> Result<Reply, Fault>
     ensures told { D.tells → Prepares (IsSeen show.now) (D.scene desk.old) (D.scene desk.new) result }
     ensures cause { IsCaused (D.faults desk.old) (D.faults desk.new) result }
 {

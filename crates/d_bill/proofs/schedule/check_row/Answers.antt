@@ -1,4 +1,4 @@
-use Rattle.std.proofs.Common.{◌∙◌, ap, not, rules, length}
+use Rattle.std.proofs.Common.{◌∙◌, ap, not, rules}
 use Rattle.d_bill.specs.ScheduleFile.{HasStart}
 use Rattle.d_bill.proofs.ScheduleRows.{no_mode, mode_found}
 use Rattle.d_bill.proofs.schedule.check_row.Goals as goal

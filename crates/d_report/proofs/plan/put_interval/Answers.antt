@@ -11,7 +11,7 @@ pub returns : goal.returns
 returns c =
     let i = c.args.problem.now in
     let start : c.start_text-start.result ≡ start_text i c.args.t =
-        c.start_text-start.ensures ∙ rw (c.month.ensures.year, c.month.ensures.number, c.minutes.ensures) refl in
+    c.start_text-start.ensures ∙ rw (c.month.ensures.year, c.month.ensures.number, c.minutes.ensures) refl in
     let fits : FitsSigned w64 c.flow.result = search rules in
     let shown : string_bytes c.in_ok-numbers.numbers ≡ decimal c.args.level ++ 32 ∷ signed_decimal c.flow.result
     = c.in_ok-numbers.ensures ∙ ap (λ (z : ℤ). decimal c.args.level ++ 32 ∷ signed_decimal z) (to_z-of_z w64 c.flow.result fits) in

@@ -54,7 +54,7 @@ returns-clause-told g c t =
     let recorded = c.in_ok-recorded.recorded in
     let terms = terms_of recorded.tariff in
     let kept : tariff_text recorded.table seen.label terms ≡ tariff_text (rows_with_label seen.label rows) seen.label terms =
-        ap (λ (table : List (List (List ℕ))). tariff_text table seen.label terms) loaded.1.1.table ∙ tariff_kept rows seen.label terms in
+    ap (λ (table : List (List (List ℕ))). tariff_text table seen.label terms) loaded.1.1.table ∙ tariff_kept rows seen.label terms in
     let P : List ℕ → Type 0 = λ text. IsReply (λ (answer : Answer). answer ≡ says Done text) c.in_ok-tariff_reply.field-0 in
     stage_goes_on seen.records longest_record LongRecord (RefusesRecord rows seen.label rule) (IsRecord rows seen.label rule)
     (IsTariffOf (rows_with_label seen.label rows) seen.label) x y _ terms (Ok c.in_ok-tariff_reply.field-0) (record_known rows seen.label rule)
