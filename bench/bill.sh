@@ -1,5 +1,5 @@
 #!/bin/sh
-# Times the built program on a month of 744 readings: `bill` by a tariff in which all 36 energy periods and 37 groups occur, each with two
+# Times the built program on a month of 2976 readings: `bill` by a tariff in which all 36 energy periods and 37 groups occur, each with two
 # tiers, and `plan` with two prices and a battery of 256 levels and 9 modes. It prints time and peak memory, and isn't part of the gate.
 . "$(dirname -- "$0")/lib.sh"
 built
@@ -9,8 +9,9 @@ import csv, json
 
 with open("readings.csv", "w") as file:
     file.write("start,net_wh\n")
-    for hour in range(744):
-        file.write("2025-01-%02dT%02d:00,%d\n" % (hour // 24 + 1, hour % 24, hour * 7919 % 8000 - 1000))
+    for quarter in range(2976):
+        minute = quarter % 96 * 15
+        file.write("2025-01-%02dT%02d:%02d,%d\n" % (quarter // 96 + 1, minute // 60, minute % 60, quarter * 7919 % 8000 - 1000))
 with open("battery.csv", "w") as file:
     file.write("kind,name,change,grid_wh,low,high\nset,capacity,255,,,\nset,start,40,,,\n")
     for mode in range(9):
