@@ -18,3 +18,7 @@ mod real_files;
 mod runs;
 #[cfg(test)]
 mod runtime;
+#[cfg(test)]
+mod shows;
+#[cfg(test)]
+mod steps;

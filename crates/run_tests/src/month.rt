@@ -32,3 +32,25 @@ pub fn month(
 pub fn readings(alloc: Global) -> Result<String, Fail> {
     month(alloc, "start,net_wh", "1000", 673, "")
 }
+
+/// Readings of 1000 Wh in each interval, which are so many minutes long.
+pub fn readings_every(alloc: Global, minutes: u8) -> Result<String, Fail> {
+    let mut text = String::from_str(alloc, "start,net_wh\n")?;
+    for hour in 0..672u16 {
+        put_hour(&mut text, hour, minutes)?;
+    }
+    Ok(text)
+}
+
+/// Adds the readings of an hour of the month.
+fn put_hour(text: &mut String, hour: u16, minutes: u8) -> Result<(), Fail> {
+    let day = hour / 24 + 1;
+    let clock = hour % 24;
+    for part in 0..4u16 {
+        let minute = part * minutes as u16;
+        if minute < 60 {
+            write!(text, "2025-02-{day:02}T{clock:02}:{minute:02},1000\n")?;
+        }
+    }
+    Ok(())
+}

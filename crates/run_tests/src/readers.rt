@@ -29,9 +29,9 @@ fn readings_are_read_or_refused(rt: HostRuntime) -> Result<(), Fail> {
         "start,net_wh",
         "1000",
         "0 START, Net_Wh>0 bill 67.20|1 2025-02-01 00:00:00,1000000000>0 bill 100067.10|6 2025-02-01T05:00,-5>0 bill 67.10\
-        |672  2025-02-28 23:00\t, 1e3 >0 bill 67.20|6 2025-02-01T05:00,1000000001>3 refused readings 23 NotYet\
-        |6 2025-02-01T05:00,5.5>3 refused readings 23 NotYet|6 2025-02-01T06:00,5>3 refused readings 23 NotYet\
-        |672 >3 refused readings 23 NotYet|1 2025-02-29T00:00,5>3 refused readings 23 NotYet|0 start,net_wh,>3 refused readings 23 NotYet",
+        |672  2025-02-28 23:00\t, 1e3 >0 bill 67.20|6 2025-02-01T05:00,1000000001>3 refused readings 7 TooLarge 5\
+        |6 2025-02-01T05:00,5.5>3 refused readings 6 Number 5|6 2025-02-01T06:00,5>3 refused readings 3 Order 5\
+        |672 >3 refused readings 5 Count 671 672|1 2025-02-29T00:00,5>3 refused readings 2 Start 0|0 start,net_wh,>3 refused readings 1 Shape",
     )
 }
 
@@ -45,10 +45,12 @@ fn a_battery_is_read_or_refused(rt: HostRuntime) -> Result<(), Fail> {
         "mode,idle,0,0,,\nset,capacity,255,,,>0 2025-02-28T23:00 idle 0 1000\
         |set,capacity,4,,,\nset,floor,2,,,\nset,end,1,,,\nmode,rest,0,0,,\n>0 2025-02-28T23:00 rest 2 1000\
         |set,capacity,4,,,\nset,floor,1,,,\nset,start,2,,,\nset,end,3,,,\nmode,a-_Z9,-255,-1000000000,0,255\n>5 no schedule\
-        |set,capacity,256,,,\nmode,idle,0,0,,\n>4 refused battery 23 NotYet|set,capacity,4,,,\n>4 refused battery 23 NotYet\
-        |set,capacity,4,,,\nset,capacity,4,,,\nmode,idle,0,0,,\n>4 refused battery 23 NotYet\
-        |set,capacity,4,,,\nmode,idle,0,0,,\nmode,idle,1,0,,\n>4 refused battery 23 NotYet\
-        |set,capacity,4,,,\nmode,idle,0,0,3,2\n>4 refused battery 23 NotYet|set,capacity,4,,\nmode,idle,0,0,,\n>4 refused battery 23 NotYet",
+        |set,capacity,256,,,\nmode,idle,0,0,,\n>4 refused battery 6 Range 0|set,capacity,4,,,\n>4 refused battery 7 NoModes\
+        |set,capacity,4,,,\nset,capacity,4,,,\nmode,idle,0,0,,\n>4 refused battery 4 Twice 1\
+        |set,capacity,4,,,\nmode,idle,0,0,,\nmode,idle,1,0,,\n>4 refused battery 4 Twice 2\
+        |set,capacity,4,,,\nmode,idle,0,0,3,2\n>4 refused battery 6 Range 1|set,capacity,4,,\nmode,idle,0,0,,\n>4 refused battery 1 Shape\
+        |set,size,4,,,\n>4 refused battery 2 Unknown 0|mode,idle,0,0,,\n>4 refused battery 3 Missing capacity\
+        |set,capacity,4.5,,,\n>4 refused battery 5 Number 0",
     )
 }
 
