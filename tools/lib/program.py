@@ -13,14 +13,13 @@ class Failed(Exception):
 
 def note(name, text):
     """Tells something beside the output."""
-    print(f"{name}: note: {text}", file=sys.stderr)
+    print(f"{name}: note: {one_line(text)}", file=sys.stderr)
 
 
 def run(name, main):
     """Runs a tool to its end: status 0, or 1 and one line that says why."""
-    for stream in (sys.stdin, sys.stdout):
-        stream.reconfigure(encoding="utf-8", errors="surrogateescape")
     try:
+        open_output()
         main()
         sys.stdout.flush()
         return
@@ -40,6 +39,14 @@ def run(name, main):
     drop_output()
     print(f"{name}: error: {one_line(reason)}", file=sys.stderr)
     sys.exit(1)
+
+
+def open_output():
+    """Readies standard output for the bytes of any file."""
+    if sys.stdout is None:
+        sys.stdout = open(os.devnull, "w", encoding="utf-8")
+        raise Failed("standard output is closed")
+    sys.stdout.reconfigure(encoding="utf-8", errors="surrogateescape")
 
 
 def drop_output():
@@ -63,6 +70,8 @@ def one_line(text):
 def read_text(path):
     """A whole UTF-8 file, or standard input for `-`, without the byte order mark."""
     try:
+        if path == "-" and sys.stdin is None:
+            raise Failed("standard input is closed")
         if path == "-":
             content = sys.stdin.buffer.read()
         else:

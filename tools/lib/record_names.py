@@ -127,11 +127,12 @@ def nearest(word, words, least=CLOSE):
 
 def nearest_tier(name):
     """The nearest name of a tier's column, with the numbers as they were meant."""
-    front, _, back = name.partition("/")
-    structure = nearest(front, STRUCTURES)
-    numbers = re.findall(r"[0-9]+", back)
-    if not structure or not back:
+    found = re.match(r"([a-z]+)[^a-z0-9](.*)", name, re.DOTALL)
+    structure = nearest(found[1], STRUCTURES, 0.6 if TIER_NAME.fullmatch(name) else CLOSE) if found else None
+    if not structure:
         return None
+    back = found[2]
+    numbers = re.findall(r"[0-9]+", back)
     part = nearest(re.split(r"[0-9]+", back)[-1].strip(" _/-"), STRUCTURES[structure], 0.5)
     if not part:
         return f"unknown: a tier's parts are {', '.join(STRUCTURES[structure])}"

@@ -64,6 +64,10 @@ class Entry:
     advice: str
     is_row: bool
 
+    def names(self, refusal):
+        """Whether it names this number and name."""
+        return any(line[1:3] == (refusal.number, refusal.name) for line in self.lines)
+
 
 def read_line(text):
     """The refusal that a line tells."""
@@ -152,7 +156,7 @@ class Page:
 
     def about(self, refusal):
         """All entries that name this refusal."""
-        return [entry for entry in self.entries if entry.kind == refusal.kind and any(line[1:3] == (refusal.number, refusal.name) for line in entry.lines)]
+        return [entry for entry in self.entries if entry.kind == refusal.kind and entry.names(refusal)]
 
 
 def best(entries, score):
@@ -222,7 +226,7 @@ def row_above(page, refusal, entry, alike):
             break
         if other.is_row and other.section is entry.section:
             above.append(other)
-    same = [other for other in above if any(line[1:3] == (refusal.number, refusal.name) for line in other.lines)]
+    same = [other for other in above if other.names(refusal)]
     return next(reversed(same if alike and same else above), None)
 
 

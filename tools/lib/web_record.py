@@ -155,5 +155,8 @@ def header_of(rows):
     for row in rows:
         for column in row:
             tier = TIER_NAME.fullmatch(column)
-            groups.setdefault(tier[1] + "/" if tier else column, {})[column] = True
-    return [column for name, group in groups.items() for column in (sorted(group, key=tier_order) if name.endswith("/") and len(group) > 1 else group)]
+            groups.setdefault((tier[1],) if tier else column, {})[column] = True
+    header = []
+    for group in groups.values():
+        header += sorted(group, key=tier_order) if len(group) > 1 else group
+    return header

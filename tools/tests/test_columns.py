@@ -24,6 +24,8 @@ class Columns(ToolTest):
             ("energyratestructure/period00/tier0rate", "energyratestructure/period0/tier0rate"),
             ("demandratestructures/period0/tier0adj", "demandratestructure/period0/tier0adj"),
             ("energyratestructure/perod2/tier1max", "energyratestructure/period2/tier1max"),
+            ("energyratestructure.period3.tier1_rate", "energyratestructure/period3/tier1rate"),
+            ("energyrate/period0/tier0rate", "energyratestructure/period0/tier0rate"),
             ("energyratestructure/period0rate", "energyratestructure/periodP/tierKrate"),
         ):
             with self.subTest(written):
@@ -110,6 +112,24 @@ class Columns(ToolTest):
 
     def test_help(self):
         self.assert_help("columns")
+
+    @unittest.skipUnless(HAS_PROGRAM, "the program isn't built")
+    def test_the_program_refuses_nonsense_exactly_in_columns_that_are_not_listed(self):
+        readings = os.path.join(TOP, "examples", "first", "readings.csv")
+        for name in (
+            "energyratestructure/period35/tier0rate", "energyratestructure/period36/tier0rate", "energyratestructure/period01/tier0rate",
+            "energyratestructure/period0/tier00rate", "energyratestructure/period0/tier0sel", "EnergyRateStructure/Period1/Tier0Sell",
+            "demandratestructure/period0/tier0adj", "demandratestructure/period0/tier0unit", "demandratestructure/period0/tier0sell",
+            "flatdemandstructure/period2/tier0rate", "flatdemandstructure/period2/tier0sell", "coincidentratestructure/period0/tier15adj",
+            "coincidentratestructure/period0/tier16adj", "coincidentratestructure/period0/tier0max", "flatdemandmonths", "flatdemandmonth12",
+            "flatdemandmonth13", "flatdemandmonth03", "demandratchetpercentage", "demandratchetpercentage1", "demandratchetpercentage0",
+            "fueladjustmentsmonthly7", "dgrules", "demandwindow", "lookbackpercent", "lookbackrange", "MINCHARGE", "minmonthlycharge",
+            "fixedchargeeaaddl", "annualmincharge", "demandreactivepowercharge", "energyweekendschedule", "demandrateunit", "flatdemandunit",
+        ):
+            with self.subTest(name):
+                path = self.file("a.csv", f"label,energyratestructure/period0/tier0rate,{name}\nL,0.1,x\n")
+                status = run_program("bill", "--records", path, "--label", "L", "--readings", readings)[0]
+                self.assertEqual(0 if self.output_of("columns", path, "L") else 2, status)
 
     @unittest.skipUnless(HAS_PROGRAM, "the program isn't built")
     def test_the_program_ignores_the_same_columns(self):

@@ -17,7 +17,8 @@ class Labels(ToolTest):
 
     def test_a_word_is_found_in_letters_of_either_case(self):
         path = os.path.join(TOP, "examples", "solar", "tariff.csv")
-        self.assertEqual(HEADER + "HOME-NM\tValley Power\tResidential Service with net metering\tResidential\t2019-01-01\n", self.output_of("labels", path, "NET Met"))
+        row = "HOME-NM\tValley Power\tResidential Service with net metering\tResidential\t2019-01-01\n"
+        self.assertEqual(HEADER + row, self.output_of("labels", path, "NET Met"))
 
     def test_all_words_have_to_stand_in_some_column(self):
         path = self.file("a.csv", "label,name,utility\nA,north,power\nB,south,power\nC,north,gas\n")

@@ -47,12 +47,18 @@ class Record(ToolTest):
         self.assertEqual(("", "0.5", "0.9"), tuple(row[f"demandratchetpercentage{month}"] for month in (1, 2, 12)))
 
     def test_nulls_absent_fields_and_empty_lists_are_empty(self):
-        rows = self.rows('{"items":[{"label":"A","enddate":null,"fueladjustmentsmonthly":[]},{"label":"B","name":"n","energyratestructure":[[{"rate":null}],[],null]}]}')
+        rows = self.rows(
+            '{"items":[{"label":"A","enddate":null,"fueladjustmentsmonthly":[]},'
+            '{"label":"B","name":"n","energyratestructure":[[{"rate":null}],[],null]}]}'
+        )
         self.assertEqual(("", "", ""), (rows[0]["enddate"], rows[0]["fueladjustmentsmonthly"], rows[0]["name"]))
         self.assertEqual(("", "n", ""), (rows[1]["enddate"], rows[1]["name"], rows[1]["energyratestructure/period0/tier0rate"]))
 
     def test_columns_are_those_of_all_records_with_tiers_in_order(self):
-        text = '[{"name":"n","label":"A","energyratestructure":[[{"rate":1}],[],[],[],[],[],[],[],[],[],[{"rate":1}]]},{"label":"B","energyratestructure":[[{"max":1},{"rate":2}],[],[{"rate":3}]]}]'
+        text = (
+            '[{"name":"n","label":"A","energyratestructure":[[{"rate":1}],[],[],[],[],[],[],[],[],[],[{"rate":1}]]},'
+            '{"label":"B","energyratestructure":[[{"max":1},{"rate":2}],[],[{"rate":3}]]}]'
+        )
         tiers = ["period0/tier0max", "period0/tier0rate", "period0/tier1rate", "period2/tier0rate", "period10/tier0rate"]
         header = self.output_of("record", self.file("a.json", text)).splitlines()[0]
         self.assertEqual(["label", "name", *(f"energyratestructure/{tier}" for tier in tiers)], header.split(","))
@@ -66,8 +72,8 @@ class Record(ToolTest):
         self.assertEqual("label,mincharge\nA,5\n", self.output_of("record", self.file("a.json", '{"Label":"A","minCharge":5}')))
 
     def test_commas_quotes_breaks_and_objects_are_one_cell(self):
-        output = self.output_of("record", self.file("a.json", '{"label":"A","name":"a, \\"b\\"","description":"x\\r\\ny\\rz","energyattrs":[{"k":"v"},{"n":1.50,"t":true}]}'))
-        path = self.file("a.csv", output)
+        text = '{"label":"A","name":"a, \\"b\\"","description":"x\\r\\ny\\rz","energyattrs":[{"k":"v"},{"n":1.50,"t":true}]}'
+        path = self.file("a.csv", self.output_of("record", self.file("a.json", text)))
         with open(path, encoding="utf-8", newline="") as file:
             row = list(csv.DictReader(file))[0]
         self.assertEqual('a, "b"', row["name"])
@@ -134,7 +140,8 @@ class Record(ToolTest):
         rows = os.path.join(folder, "tariff.csv")
         made = os.path.join(self.folder, "made.csv")
         self.output_of("record", self.file("a.json", web_form(rows)), "-o", made)
-        bills = [run_program("bill", "--records", path, "--label", "OFFICE-1", "--readings", os.path.join(folder, "readings.csv")) for path in (rows, made)]
+        readings = os.path.join(folder, "readings.csv")
+        bills = [run_program("bill", "--records", path, "--label", "OFFICE-1", "--readings", readings) for path in (rows, made)]
         self.assertEqual(0, bills[0][0])
         self.assertIn("bill 982.7272\n", bills[0][1])
         self.assertEqual(bills[0], bills[1])
