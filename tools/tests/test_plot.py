@@ -54,7 +54,7 @@ class Plot(ToolTest):
             with self.subTest(line=lines[place]):
                 self.assertIn(f"line {place + 1}: ", self.error("".join(lines[:place] + ["nonsense\n"] + lines[place + 1 :])))
                 name = lines[place].split()[0]
-                self.assertIn(f"line {place + 1}: no line of a plan", self.error("".join(lines[:place] + [f"{name} ?\n"] + lines[place + 1 :])))
+                self.assertIn(f"line {place + 1}: no line of a plan", self.error("".join(lines[:place] + [f"{name} \u00e9\n"] + lines[place + 1 :])))
 
     def test_lines_that_may_be_left_out_may_be(self):
         short = PLAN.replace("flat peak 4000 floor 0 charge 40.00\n", "").replace("period 0 import 676000 charge 67.60\n", "")
