@@ -202,11 +202,15 @@ def net_of(cells, columns, factor, comma):
 def read_export(path, text, wanted):
     """All readings of an export."""
     separator = table.find_separator(text)
-    columns, header, rows = split_heading(table.rows_of(path, text, separator), wanted, path)
+    all_rows = table.rows_of(path, text, separator)
+    columns, header, rows = split_heading(all_rows, wanted, path)
     begins, notes = read_starts(rows, columns, wanted, path)
     minutes = find_minutes(begins, wanted, path)
     titles = [header[place] for place in (columns.imported, columns.exported) if place is not None and place < len(header)]
     notes += filter(None, (unit_note(title, wanted.unit) for title in titles))
+    heading = [line for line, _ in all_rows if line < rows[0][0]]
+    if len(heading) > 1:
+        notes.append(f"the readings begin in line {rows[0][0]}; {len(heading)} rows before it are the heading")
     shift = datetime.timedelta(minutes=minutes if wanted.ends else 0)
     factor = factor_of(wanted.unit, minutes)
     readings, empty = [], 0

@@ -68,7 +68,7 @@ class Plot(ToolTest):
         self.assertIn("the plan ends before 2025-02-01T00:00", self.error(HEAD))
         self.assertIn("in place of the end stands", self.error(PLAN + "2025-03-01T00:00 idle 1 0\n"))
         self.assertIn("line 15: no line of an interval", self.error(PLAN.replace("charge 1 2000", "charge 1 2000.5")))
-        self.assertIn("too large", self.error(PLAN.replace("charge 1 2000", "charge 1 " + "9" * 5000)))
+        self.assertIn("line 15: no line of an interval", self.error(PLAN.replace("charge 1 2000", "charge 1 " + "9" * 5000)))
 
     def test_other_texts_of_the_program_are_no_plan(self):
         for text in ("no schedule\n", "dispatch bill\nlabel L\n", "refused record 23 NotYet none 2\n"):
@@ -121,6 +121,12 @@ class Plot(ToolTest):
                 drawn.append(file.read())
         self.assertEqual(drawn[0], drawn[1])
         self.assertIn(b"<svg", drawn[0])
+
+    @unittest.skipUnless(HAS_MATPLOTLIB, "matplotlib isn't here")
+    def test_a_label_with_dollars_is_no_formula_and_any_year_is_drawn(self):
+        for year, label in (("0001", "a$\\frac$b"), ("9999", "$x_$")):
+            plan = PLAN.replace("2025-", f"{year}-").replace("label L", f"label {label}").replace(" 4000 floor", " 999999999999999999 floor")
+            self.assertEqual("", self.output_of("plot", self.file("plan.txt", plan)))
 
 
 if __name__ == "__main__":
