@@ -102,7 +102,7 @@ def has_start(cells, columns, wanted):
 
 
 def header_above(rows, wanted):
-    """The header among the rows of a heading: the last that has all named columns, or the last of all where none is named; none where it isn't there."""
+    """The header among the rows of a heading: the last with all named columns, or the last where none is named."""
     names = [name for name in (wanted.start, wanted.imported, wanted.exported) if name]
     if not rows or all(name.replace(",", "").replace(" ", "").isdigit() for name in names):
         return rows[-1][1] if rows else []
@@ -126,7 +126,8 @@ def split_heading(rows, wanted, path):
     heading = header_above(rows[:LARGEST_HEADING], wanted)
     columns = columns_of(wanted, rows[0][1] if heading is None else heading, path)
     line, cells = rows[min(1, len(rows) - 1)]
-    raise Failed(f"{path} line {line}: no date stands in the column of starts, but {decimals.shown(start_cell(cells, columns))}; choose it by --start")
+    cell = decimals.shown(start_cell(cells, columns))
+    raise Failed(f"{path} line {line}: no date stands in the column of starts, but {cell}; choose it by --start")
 
 
 def unit_note(title, unit):

@@ -64,7 +64,8 @@ class Plot(ToolTest):
         self.assertEqual(SCHEDULE, self.output_of("plot", "-", "--schedule", "-", given=long.encode()))
 
     def test_every_interval_has_to_stand_in_its_place(self):
-        self.assertIn("line 16: in place of 2025-02-01T01:00 stands 2025-02-01T02:00", self.error(PLAN.replace("2025-02-01T01:00 idle 1 -1000\n", "")))
+        gap = PLAN.replace("2025-02-01T01:00 idle 1 -1000\n", "")
+        self.assertIn("line 16: in place of 2025-02-01T01:00 stands 2025-02-01T02:00", self.error(gap))
         self.assertIn("the plan ends before 2025-02-01T00:00", self.error(HEAD))
         self.assertIn("in place of the end stands", self.error(PLAN + "2025-03-01T00:00 idle 1 0\n"))
         self.assertIn("line 15: no line of an interval", self.error(PLAN.replace("charge 1 2000", "charge 1 2000.5")))
