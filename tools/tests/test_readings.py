@@ -153,6 +153,10 @@ class Readings(ToolTest):
         self.assertEqual(readings(), self.of(content, "--fill", "previous"))
         self.assertIn("2025-02-05T04:00 is missing: the reading before it is taken", self.notes(content, "--fill", "previous"))
 
+    def test_several_missing_hours_have_the_last_reading_before_them(self):
+        starts = february()
+        self.assertEqual(readings(), self.of(export(starts=starts[:100] + starts[103:]), "--fill", "previous"))
+
     def test_a_missing_first_hour_has_no_reading_before_it(self):
         content = export(starts=february()[1:])
         self.assertIn("before it the interval 2025-02-01T00:00 is missing", self.error(content))
