@@ -7,7 +7,8 @@ import sys
 import unittest
 
 sys.path.insert(0, os.path.dirname(os.path.abspath(__file__)))
-from tool_runner import TOP, ToolTest
+from long_text import LongTextTest
+from tool_runner import TOP
 
 HEAD = """dispatch plan
 label L
@@ -31,7 +32,7 @@ BATTERY = "kind,name,change,grid_wh,low,high\nset,capacity,4,,,\nmode,idle,0,0,,
 HAS_MATPLOTLIB = importlib.util.find_spec("matplotlib") is not None
 
 
-class Plot(ToolTest):
+class Plot(LongTextTest):
     def error(self, content):
         """What is said of a bad plan."""
         return self.error_of("plot", self.file("plan.txt", content), "--schedule", "-")

@@ -6,7 +6,7 @@ import sys
 import unittest
 
 sys.path.insert(0, os.path.dirname(os.path.abspath(__file__)))
-from tool_runner import ToolTest
+from long_text import LongTextTest
 
 MINUTE = datetime.timedelta(minutes=1)
 
@@ -28,7 +28,7 @@ def readings(value="1500", starts=None):
     return "start,net_wh\n" + "".join(f"{start:%Y-%m-%dT%H:%M},{value}\n" for start in (february() if starts is None else starts))
 
 
-class Readings(ToolTest):
+class Readings(LongTextTest):
     def of(self, content, *words):
         """What the tool makes of a file."""
         return self.output_of("readings", self.file("e.csv", content), *words)
