@@ -102,7 +102,7 @@ def has_start(cells, columns, wanted):
 
 
 def header_above(rows, wanted):
-    """The header among the rows of a heading: the last that has all named columns, or the last of all where none is named; none where it isn't there."""
+    """The header among the rows of a heading: the last with all named columns, or the last where none is named."""
     names = [name for name in (wanted.start, wanted.imported, wanted.exported) if name]
     if not rows or all(name.replace(",", "").replace(" ", "").isdigit() for name in names):
         return rows[-1][1] if rows else []
@@ -126,7 +126,8 @@ def split_heading(rows, wanted, path):
     heading = header_above(rows[:LARGEST_HEADING], wanted)
     columns = columns_of(wanted, rows[0][1] if heading is None else heading, path)
     line, cells = rows[min(1, len(rows) - 1)]
-    raise Failed(f"{path} line {line}: no date stands in the column of starts, but {decimals.shown(start_cell(cells, columns))}; choose it by --start")
+    cell = decimals.shown(start_cell(cells, columns))
+    raise Failed(f"{path} line {line}: no date stands in the column of starts, but {cell}; choose it by --start")
 
 
 def unit_note(title, unit):
@@ -202,11 +203,15 @@ def net_of(cells, columns, factor, comma):
 def read_export(path, text, wanted):
     """All readings of an export."""
     separator = table.find_separator(text)
-    columns, header, rows = split_heading(table.rows_of(path, text, separator), wanted, path)
+    all_rows = table.rows_of(path, text, separator)
+    columns, header, rows = split_heading(all_rows, wanted, path)
     begins, notes = read_starts(rows, columns, wanted, path)
     minutes = find_minutes(begins, wanted, path)
     titles = [header[place] for place in (columns.imported, columns.exported) if place is not None and place < len(header)]
     notes += filter(None, (unit_note(title, wanted.unit) for title in titles))
+    heading = [line for line, _ in all_rows if line < rows[0][0]]
+    if len(heading) > 1:
+        notes.append(f"the readings begin in line {rows[0][0]}; {len(heading)} rows before it are the heading")
     shift = datetime.timedelta(minutes=minutes if wanted.ends else 0)
     factor = factor_of(wanted.unit, minutes)
     readings, empty = [], 0

@@ -8,9 +8,8 @@ import re
 from lib import starts
 from lib.program import Failed
 
-MONEY = r"-?[0-9]+\.[0-9]{2,21}"
-WHOLE = r"-?[0-9]+"
-NATURAL = r"[0-9]+"
+MONEY = r"-?[0-9]{1,40}\.[0-9]{2,21}"
+NATURAL = r"[0-9]{1,18}"
 # The lines before the intervals in their order: the name, what follows it, and whether it may be left out or come often.
 HEAD = (
     ("dispatch", r"plan", "1"),
@@ -30,7 +29,7 @@ HEAD = (
     ("sum", MONEY, "1"),
     ("minimum", rf"none|{MONEY}", "1"),
 )
-INTERVAL = re.compile(rf"([0-9]{{4}}-[0-9]{{2}}-[0-9]{{2}}T[0-9]{{2}}:[0-9]{{2}}) ([A-Za-z0-9_-]{{1,32}}) ({NATURAL}) ({WHOLE})", re.ASCII)
+INTERVAL = re.compile(rf"([0-9]{{4}}-[0-9]{{2}}-[0-9]{{2}}T[0-9]{{2}}:[0-9]{{2}}) ([A-Za-z0-9_-]{{1,32}}) ([0-9]{{1,3}}) (-?[0-9]{{1,12}})", re.ASCII)
 
 
 @dataclasses.dataclass
@@ -102,8 +101,6 @@ def read_plan(path, text):
         found = INTERVAL.fullmatch(line)
         if not found:
             raise Failed(f"{path} line {number}: no line of an interval: '{line[:60]}'")
-        if len(found[3]) > 3 or len(found[4]) > 12:
-            raise Failed(f"{path} line {number}: a number is too large: '{line[:60]}'")
         if len(intervals) == len(expected) or found[1] != expected[len(intervals)]:
             wanted = expected[len(intervals)] if len(intervals) < len(expected) else "the end"
             raise Failed(f"{path} line {number}: in place of {wanted} stands {found[1]}")

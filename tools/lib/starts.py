@@ -24,7 +24,7 @@ def looks_like_date(text):
 
 
 def order_of(cells):
-    """Which of day and month comes first in the dates of a file: told by a first or second number above 12, or by points; none where it isn't told."""
+    """Which of day and month comes first in the dates of a file: a number above 12 tells it, and so do points."""
     orders = set()
     slashes = False
     for cell in cells:

@@ -6,7 +6,8 @@ import sys
 import unittest
 
 sys.path.insert(0, os.path.dirname(os.path.abspath(__file__)))
-from tool_runner import HAS_PROGRAM, TOP, ToolTest, run_program
+from long_text import LongTextTest
+from tool_runner import HAS_PROGRAM, TOP, run_program
 
 HOME = os.path.join(TOP, "examples", "home")
 LABEL = "5f3c1e0b2d7a4c6e8a90b1d2"
@@ -30,7 +31,7 @@ def bill_of(text):
     return next(line for line in text.splitlines() if line.startswith("bill "))
 
 
-class Home(ToolTest):
+class Home(LongTextTest):
     def run_command(self, command, readings=path_of("readings.csv"), *words):
         """What the program prints for the example."""
         status, text = run_program(command, "--records", path_of("tariff.csv"), "--label", LABEL, "--readings", readings, *words)

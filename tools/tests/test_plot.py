@@ -7,7 +7,8 @@ import sys
 import unittest
 
 sys.path.insert(0, os.path.dirname(os.path.abspath(__file__)))
-from tool_runner import TOP, ToolTest
+from long_text import LongTextTest
+from tool_runner import TOP
 
 HEAD = """dispatch plan
 label L
@@ -31,7 +32,7 @@ BATTERY = "kind,name,change,grid_wh,low,high\nset,capacity,4,,,\nmode,idle,0,0,,
 HAS_MATPLOTLIB = importlib.util.find_spec("matplotlib") is not None
 
 
-class Plot(ToolTest):
+class Plot(LongTextTest):
     def error(self, content):
         """What is said of a bad plan."""
         return self.error_of("plot", self.file("plan.txt", content), "--schedule", "-")
@@ -64,11 +65,12 @@ class Plot(ToolTest):
         self.assertEqual(SCHEDULE, self.output_of("plot", "-", "--schedule", "-", given=long.encode()))
 
     def test_every_interval_has_to_stand_in_its_place(self):
-        self.assertIn("line 16: in place of 2025-02-01T01:00 stands 2025-02-01T02:00", self.error(PLAN.replace("2025-02-01T01:00 idle 1 -1000\n", "")))
+        gap = PLAN.replace("2025-02-01T01:00 idle 1 -1000\n", "")
+        self.assertIn("line 16: in place of 2025-02-01T01:00 stands 2025-02-01T02:00", self.error(gap))
         self.assertIn("the plan ends before 2025-02-01T00:00", self.error(HEAD))
         self.assertIn("in place of the end stands", self.error(PLAN + "2025-03-01T00:00 idle 1 0\n"))
         self.assertIn("line 15: no line of an interval", self.error(PLAN.replace("charge 1 2000", "charge 1 2000.5")))
-        self.assertIn("too large", self.error(PLAN.replace("charge 1 2000", "charge 1 " + "9" * 5000)))
+        self.assertIn("line 15: no line of an interval", self.error(PLAN.replace("charge 1 2000", "charge 1 " + "9" * 5000)))
 
     def test_other_texts_of_the_program_are_no_plan(self):
         for text in ("no schedule\n", "dispatch bill\nlabel L\n", "refused record 23 NotYet none 2\n"):
@@ -121,6 +123,12 @@ class Plot(ToolTest):
                 drawn.append(file.read())
         self.assertEqual(drawn[0], drawn[1])
         self.assertIn(b"<svg", drawn[0])
+
+    @unittest.skipUnless(HAS_MATPLOTLIB, "matplotlib isn't here")
+    def test_a_label_with_dollars_is_no_formula_and_any_year_is_drawn(self):
+        for year, label in (("0001", "a$\\frac$b"), ("9999", "$x_$")):
+            plan = PLAN.replace("2025-", f"{year}-").replace("label L", f"label {label}").replace(" 4000 floor", " 999999999999999999 floor")
+            self.assertEqual("", self.output_of("plot", self.file("plan.txt", plan)))
 
 
 if __name__ == "__main__":

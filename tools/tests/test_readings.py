@@ -6,7 +6,7 @@ import sys
 import unittest
 
 sys.path.insert(0, os.path.dirname(os.path.abspath(__file__)))
-from tool_runner import ToolTest
+from long_text import LongTextTest
 
 MINUTE = datetime.timedelta(minutes=1)
 
@@ -28,7 +28,7 @@ def readings(value="1500", starts=None):
     return "start,net_wh\n" + "".join(f"{start:%Y-%m-%dT%H:%M},{value}\n" for start in (february() if starts is None else starts))
 
 
-class Readings(ToolTest):
+class Readings(LongTextTest):
     def of(self, content, *words):
         """What the tool makes of a file."""
         return self.output_of("readings", self.file("e.csv", content), *words)
@@ -152,6 +152,10 @@ class Readings(ToolTest):
         self.assertIn("2025-02-05T04:00,0\n", self.of(content, "--fill", "zero"))
         self.assertEqual(readings(), self.of(content, "--fill", "previous"))
         self.assertIn("2025-02-05T04:00 is missing: the reading before it is taken", self.notes(content, "--fill", "previous"))
+
+    def test_several_missing_hours_have_the_last_reading_before_them(self):
+        starts = february()
+        self.assertEqual(readings(), self.of(export(starts=starts[:100] + starts[103:]), "--fill", "previous"))
 
     def test_a_missing_first_hour_has_no_reading_before_it(self):
         content = export(starts=february()[1:])
