@@ -7,8 +7,8 @@ ghost use Rattle.d_path.specs.Arcs.{arcs_of, intervals_of, IsSound};
 ghost use Rattle.d_bound.specs.PlanWays.{mode_cost, mode_costs, move_of, plan_arcs, AreRates, IsFoundWay, IsFoundLeast};
 
 use crate::rates::prices_of;
-use d_bill::Problem;
 use d_batt::Mode;
+use d_bill::Problem;
 use d_num::{Money, NoMemory, Pot, Rate, Wh};
 use d_path::{Layers, Move, Ways, backward, first_cheapest};
 use std::alloc::Global;
