@@ -1,0 +1,4 @@
+pub mod HalfFacts
+mod ListFacts
+mod FoundFacts
+mod SplitFacts

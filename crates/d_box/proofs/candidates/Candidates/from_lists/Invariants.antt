@@ -1,0 +1,5 @@
+use Rattle.d_box.specs.Splits.{AreCandidatesTo, lists_of}
+use Rattle.d_box.proofs.candidates.Candidates.from_lists.Given as goal
+
+abbrev pub invariant-loop-group : goal.invariant-loop-group
+invariant-loop-group l = AreCandidatesTo (lists_of l.fn.lists.items) (lists_of l.lists.items) l.group

@@ -1,0 +1,118 @@
+-- Boxes of peaks and totals, what they hold, and their halves. All of it is our own rule.
+use Rattle.std.specs.Prelude.{ℕ, ℤ, pos, ◌≤ℤ◌, ◌<ℤ◌, ◌≡◌, ◌⊎◌, ◌<◌, List, length, slice_index_or, slice_set}
+use Rattle.std.specs.List.{Contains}
+use Rattle.d_box.specs.declared.space.Range.{Range}
+use Rattle.d_box.specs.declared.space.Space.{Space}
+use Rattle.d_box.specs.declared.space.Split.{Split}
+use Rattle.d_box.specs.declared.space.Split.TheVariants.{Total, Peak}
+
+-- the number is from one end of the range to the other
+pub record IsIn (range : Range) (x : ℤ) : Type 0 where
+  pub low : range.low ≤ℤ x
+  pub high : x ≤ℤ range.high
+
+-- the range of 0 alone
+abbrev pub nothing : Range
+nothing = record { low = pos 0; high = pos 0 }
+
+-- the range at this place
+abbrev pub range_at : List Range → ℕ → Range
+range_at ranges k = slice_index_or ranges k nothing
+
+-- the number at this place
+abbrev pub number_at : List ℤ → ℕ → ℤ
+number_at numbers k = slice_index_or numbers k (pos 0)
+
+-- each number is in the range at its place
+abbrev pub AreIn : List Range → List ℤ → Type 0
+AreIn ranges numbers = (k : ℕ) → k < length numbers → IsIn (range_at ranges k) (number_at numbers k)
+
+-- the box holds these peaks and totals
+pub record Holds (space : Space) (peaks totals : List ℤ) : Type 0 where
+  pub peaks_in : AreIn space.peaks peaks
+  pub totals_in : AreIn space.totals totals
+
+-- the ranges with that at this place ended, or begun, at x
+abbrev pub ended : List Range → ℕ → ℤ → List Range
+ended ranges k x = slice_set ranges k (record { low = (range_at ranges k).low; high = x })
+
+abbrev pub begun : List Range → ℕ → ℤ → List Range
+begun ranges k x = slice_set ranges k (record { low = x; high = (range_at ranges k).high })
+
+-- the left half: a total's range ends at the place of the split, a peak's at the greatest candidate up to there
+abbrev pub left_half : Space → Split → ℤ → Space
+left_half space (Total index at) below = record { peaks = space.peaks; totals = ended space.totals index at }
+left_half space (Peak group at) below = record { peaks = ended space.peaks group below; totals = space.totals }
+
+-- the right half: a total's range begins at the place of the split, a peak's at the least candidate above it
+abbrev pub right_half : Space → Split → ℤ → Space
+right_half space (Total index at) above = record { peaks = space.peaks; totals = begun space.totals index at }
+right_half space (Peak group at) above = record { peaks = begun space.peaks group above; totals = space.totals }
+
+-- the split names a range that is there
+abbrev pub IsSplitThere : Split → Type 0
+IsSplitThere (Total index at) = index < 36
+IsSplitThere (Peak group at) = group < 37
+
+-- a total's range is cut strictly inside
+pub record IsTotalCut (range : Range) (at : ℤ) : Type 0 where
+  pub low : range.low <ℤ at
+  pub high : at <ℤ range.high
+
+-- a peak's range is cut between two neighbours among its candidates
+pub record IsPeakCut (candidates : List ℤ) (range : Range) (at above : ℤ) : Type 0 where
+  pub low : range.low ≤ℤ at
+  pub apart : at <ℤ above
+  pub high : above ≤ℤ range.high
+  pub there : Contains candidates at
+  pub there_above : Contains candidates above
+  pub next : (c : ℤ) → Contains candidates c → (c ≤ℤ at) ⊎ (above ≤ℤ c)
+
+-- exactly one of both
+abbrev pub OneOf : Type 0 → Type 0 → Type 0
+OneOf A B = (A × (B → ⊥)) ⊎ (B × (A → ⊥))
+
+-- what a box holds is held by exactly one half of a peak's split, where that peak is a candidate
+abbrev pub IsPeakCover : Type 0
+IsPeakCover =
+    (space : Space) (group : ℕ) (at above : ℤ) (candidates peaks totals : List ℤ) → group < length peaks → group < length space.peaks
+    → IsPeakCut candidates (range_at space.peaks group) at above → Contains candidates (number_at peaks group) → Holds space peaks totals
+    → OneOf (Holds (left_half space (Peak group at) at) peaks totals) (Holds (right_half space (Peak group at) above) peaks totals)
+
+-- what a box holds is held by a half of a total's split
+abbrev pub IsTotalCover : Type 0
+IsTotalCover =
+    (space : Space) (index : ℕ) (at below above : ℤ) (peaks totals : List ℤ) → index < length space.totals → Holds space peaks totals
+    → Holds (left_half space (Total index at) below) peaks totals ⊎ Holds (right_half space (Total index at) above) peaks totals
+
+-- the place of a split, and the candidates beside it, lie within the range that is split
+abbrev pub IsCutWithin : Space → Split → ℤ → ℤ → Type 0
+IsCutWithin space (Total index at) below above = (index < length space.totals) × ((range_at space.totals index).low ≤ℤ at) × (at ≤ℤ (range_at space.totals index).high)
+IsCutWithin space (Peak group at) below above = (group < length space.peaks) × ((range_at space.peaks group).low ≤ℤ below) × (below ≤ℤ above) × (above ≤ℤ (range_at space.peaks group).high)
+
+-- both halves' ranges lie within the box's
+pub record AreRangesWithin (inner outer : List Range) : Type 0 where
+  pub low : (k : ℕ) → (range_at outer k).low ≤ℤ (range_at inner k).low
+  pub high : (k : ℕ) → (range_at inner k).high ≤ℤ (range_at outer k).high
+
+pub record IsPart (inner outer : Space) : Type 0 where
+  pub peaks : AreRangesWithin inner.peaks outer.peaks
+  pub totals : AreRangesWithin inner.totals outer.totals
+
+abbrev pub AreWithin : Type 0
+AreWithin =
+    (space : Space) (split : Split) (below above : ℤ) → IsCutWithin space split below above
+    → IsPart (left_half space split below) space × IsPart (right_half space split above) space
+
+-- 37 ranges of peaks and 36 of totals, none empty, from 0 on
+abbrev pub AreRanges : List Range → Type 0
+AreRanges ranges = (k : ℕ) → (pos 0 ≤ℤ (range_at ranges k).low) × ((range_at ranges k).low ≤ℤ (range_at ranges k).high)
+
+pub record IsBox (space : Space) : Type 0 where
+  pub peaks : AreRanges space.peaks
+  pub totals : AreRanges space.totals
+
+abbrev pub AreBoxes : Type 0
+AreBoxes =
+    (space : Space) (split : Split) (below above : ℤ) → IsCutWithin space split below above → IsBox space
+    → IsBox (left_half space split below) × IsBox (right_half space split above)

@@ -1,0 +1,57 @@
+//! The candidates of each group.
+
+ghost use Rattle.std.specs.Prelude.{◌≡◌, ◌<◌, [], length, slice_index_or, ℤ};
+ghost use Rattle.std.specs.List.{Contains, All};
+ghost use Rattle.d_box.specs.Splits.{IsRising, AreCandidatesOf, HaveSameMembers, lists_of};
+
+use std::marker::Model;
+
+/// For each group its candidates, each once, in rising order. A contract sees it as the list of these lists.
+#[derive(Drop)]
+pub struct Candidates {
+    lists: Vec<Vec<i64>>,
+}
+
+impl Model for Candidates {
+    ghost use Rattle.std.specs.Prelude.{List, ℤ, map};
+    ghost use Rattle.std.specs.List.{All};
+
+    ghost Value = { List (List ℤ) };
+
+    ghost use Rattle.d_box.specs.Splits.{IsRising};
+
+    ghost view = { λ a. map (λ r. r.items) a.lists.items };
+
+    ghost invariant = { λ a. All IsRising (map (λ r. r.items) a.lists.items) };
+}
+
+// Sorts a list and drops repeats.
+fn rise(list: &mut Vec<i64>)
+    ensures rises { IsRising list.new.items }
+    ensures members { HaveSameMembers list.old.items list.new.items }
+{
+    list.sort_unstable();
+    list.dedup();
+}
+
+impl Candidates {
+    /// The candidates in these lists, each once.
+    pub fn from_lists(lists: Vec<Vec<i64>>) -> Candidates
+        ensures { AreCandidatesOf (lists_of lists.items) result }
+    {
+        let mut lists = lists;
+        for group in 0..lists.len() {
+            rise(&mut lists[group]);
+        }
+        Candidates { lists }
+    }
+
+    /// A group's candidates in rising order.
+    pub fn list(&self, group: u8) -> &[i64]
+        requires { group < length self.now }
+        ensures list { result.now ≡ slice_index_or self.now group [] }
+        ensures rises { All IsRising self.now }
+    {
+        &self.lists[group as usize]
+    }
+}

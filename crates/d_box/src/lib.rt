@@ -1,0 +1,17 @@
+//! Boxes of peaks and totals: what a box holds, where it is split, and its halves.
+//!
+//! A box has a range for the highest demand of each group and for the import of each tiered period. This crate knows tables of tiers and
+//! nothing of problems, schedules or bills. Nothing here takes memory.
+#![tactic(auto)]
+
+mod candidates;
+mod cut;
+mod held;
+mod space;
+mod splits;
+
+pub use candidates::Candidates;
+pub use cut::{halves, halves_are_boxes, halves_are_within, peak_halves_cover, total_halves_cover};
+pub use held::holds;
+pub use space::{Range, Space, Split};
+pub use splits::split_of;

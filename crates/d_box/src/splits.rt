@@ -1,0 +1,164 @@
+//! Where a box is split.
+
+ghost use Rattle.std.specs.Prelude.{◌≡◌, ◌≤◌, ◌<◌, ◌+◌, ◌*◌, ◌^◌, ◌<ℤ◌, ◌≤ℤ◌, length, slice_index_or, [], IsTrue, ◌↔◌, IsNone, IfSome};
+ghost use Rattle.std.specs.List.{Contains, All};
+ghost use Rattle.d_tier.specs.Charges.{peak_charge};
+ghost use Rattle.d_num.specs.Amount.{IsWithin, IsWatt};
+ghost use Rattle.d_box.specs.Boxes.{IsIn, IsBox, range_at, number_at, IsPeakCut};
+ghost use Rattle.d_box.specs.Splits.{IsInnerEnd, IsFirstTotal, IsWidest, IsSplitOf, AreEnds, IsRising, is_in, in_range, middle, peak_gap, IsLowered, HasDemandPrices, ArePowers};
+
+use crate::candidates::Candidates;
+use crate::space::{Range, Space, Split};
+use d_num::{Money, Watt};
+use d_tier::{Peak, Tiers};
+
+/// The lower of what was found and of a tier's end, where that is above the low end.
+fn lower(range: &Range, lowest: i64, end: Option<i64>) -> i64
+    ensures { IsLowered range.now lowest end result }
+{
+    if let Some(end) = end {
+        if range.low < end && end < lowest {
+            return end;
+        }
+    }
+    lowest
+}
+
+/// The lowest end of a tier strictly between both amounts.
+fn inner_end(tiers: &Tiers, range: &Range) -> Option<i64>
+    ensures { IsInnerEnd tiers.now range.now.low range.now.high (length tiers.now) result }
+{
+    let mut lowest = range.high;
+    for tier in 0..tiers.count() {
+        lowest = lower(range, lowest, tiers.end(tier));
+    }
+    if range.low < lowest && lowest < range.high {
+        Some(lowest)
+    } else {
+        None
+    }
+}
+
+/// The split of the first total with a tier end strictly inside its range.
+fn first_total(space: &Space, energy: &[Tiers]) -> Option<Split>
+    requires { length energy.now ≤ 36 }
+    ensures { IsFirstTotal space.now energy.now (length energy.now) result }
+{
+    for (index, tiers) in energy.iter().enumerate() {
+        let range = &space.totals[index];
+        if let Some(at) = inner_end(tiers, range) {
+            return Some(Split::Total {
+                index: index as u8,
+                at,
+            });
+        }
+    }
+    None
+}
+
+/// What a group is charged for a power from 0 to 10^13 W.
+fn charge_at(peak: &Peak, power: i64) -> Money
+    requires prices { HasDemandPrices peak.now }
+    requires power { IsWatt power }
+    ensures value { result ≡ peak_charge peak.now power }
+    ensures size { IsWithin (3 * 10 ^ 34) result }
+{
+    // shows the floor's range
+    let _floor = peak.floor.value();
+    peak.charge(Watt::new(power).unwrap())
+}
+
+/// How much more a group is charged at the high end of a range than at the low end.
+fn gap(peak: &Peak, range: &Range) -> Money
+    requires prices { HasDemandPrices peak.now }
+    requires low { IsWatt range.now.low }
+    requires high { IsWatt range.now.high }
+    ensures value { result ≡ peak_gap peak.now range.now }
+    ensures size { IsWithin (6 * 10 ^ 34) result }
+{
+    charge_at(peak, range.high).minus(charge_at(peak, range.low))
+}
+
+/// The first group of the greatest difference above 0.
+fn widest(space: &Space, groups: &[Peak]) -> Option<u8>
+    requires groups { length groups.now ≤ 37 }
+    requires prices { All HasDemandPrices groups.now }
+    requires powers { ArePowers space.now (length groups.now) }
+    ensures { IsWidest space.now groups.now (length groups.now) result }
+{
+    let mut found = None;
+    let mut greatest = Money::new(0).unwrap();
+    for (group, peak) in groups.iter().enumerate() {
+        let gap = gap(peak, &space.peaks[group]);
+        if gap > greatest {
+            greatest = gap;
+            found = Some(group as u8);
+        }
+    }
+    found
+}
+
+/// Whether the range has the number.
+fn has(range: &Range, number: &i64) -> bool
+    ensures { result ≡ is_in range.now number.now }
+{
+    range.low <= *number && *number <= range.high
+}
+
+/// How many candidates the range has.
+fn count_in(list: &[i64], range: &Range, most: usize) -> usize
+    requires { most ≡ length list.now }
+    ensures { result ≡ length (in_range range.now list.now) }
+{
+    let mut count = 0;
+    for place in 0..most {
+        if has(range, &list[place]) {
+            count += 1;
+        }
+    }
+    count
+}
+
+/// The candidate at this place among those of the range.
+fn pick(list: &[i64], range: &Range, place: usize) -> i64
+    requires { place < length (in_range range.now list.now) }
+    ensures { result ≡ number_at (in_range range.now list.now) place }
+{
+    let mut left = place;
+    for candidate in list {
+        if has(range, candidate) {
+            if left == 0 {
+                return *candidate;
+            }
+            left -= 1;
+        }
+    }
+    0
+}
+
+/// Where a box is split, or None for a point.
+pub fn split_of(
+    space: &Space,
+    energy: &[Tiers],
+    groups: &[Peak],
+    candidates: &Candidates,
+) -> Option<Split>
+    requires energy { length energy.now ≤ 36 }
+    requires groups { length groups.now ≤ 37 }
+    requires prices { All HasDemandPrices groups.now }
+    requires lists { length candidates.now ≡ length groups.now }
+    requires ends { AreEnds space.now candidates.now }
+    ensures { IsSplitOf space.now energy.now groups.now candidates.now result }
+{
+    if let Some(split) = first_total(space, energy) {
+        return Some(split);
+    }
+    let group = widest(space, groups)?;
+    let list = candidates.list(group);
+    let range = &space.peaks[group as usize];
+    let place = (count_in(list, range, list.len()) - 1) / 2;
+    Some(Split::Peak {
+        group,
+        at: pick(list, range, place),
+    })
+}
