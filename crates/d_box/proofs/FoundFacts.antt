@@ -1,5 +1,5 @@
 -- What the loops over tiers and groups find.
-use Rattle.std.proofs.Common.{ℕ, ℤ, suc, zero, pos, ◌≤ℤ◌, ◌<ℤ◌, ◌≡◌, ◌≢◌, ◌⊎◌, ◌<◌, ◌≤◌, ◌+◌, ◌-◌, List, [], ◌∷◌, Option, Some, None, length, sym, subst, ap, refl, inl, inr, arith, ◌∙◌}
+use Rattle.std.proofs.Common.{ℕ, ℤ, suc, zero, pos, ◌≤ℤ◌, ◌<ℤ◌, ◌≡◌, ◌≢◌, ◌⊎◌, ◌<◌, ◌≤◌, ◌+◌, ◌-◌, List, [], ◌∷◌, Option, Some, None, length, slice_index_or, sym, subst, ap, refl, inl, inr, arith, ◌∙◌}
 use Rattle.std.proofs.lemmas.Bool.{cases_eq, cases_lt}
 use Rattle.std.proofs.lemmas.Int.{ints, by_lt_z}
 use Rattle.d_tier.specs.declared.tier.Tier.{Tier}
@@ -7,8 +7,10 @@ use Rattle.d_tier.specs.Tables.{end_at}
 use Rattle.d_box.specs.declared.space.Range.{Range}
 use Rattle.d_box.specs.declared.space.Space.{Space}
 use Rattle.std.proofs.Common.{is_gt, int_cmp, true, false}
-use Rattle.d_tier.specs.declared.peak.Peak.{Peak}
-use Rattle.d_box.specs.Splits.{HasNoInner, IsLowestInner, IsLowestTo, IsLowered, HasNoGap, gap_at, IsWidestGroup, IsWidestTo}
+use Rattle.d_tier.specs.declared.peak.Peak.{Peak as Group}
+use Rattle.std.proofs.lemmas.List.{get_or_default}
+use Rattle.d_box.specs.Boxes.{range_at}
+use Rattle.d_box.specs.Splits.{peak_gap, no_peak, HasNoInner, IsLowestInner, IsLowestTo, IsLowered, HasNoGap, gap_at, IsWidestGroup, IsWidestTo}
 
 none_more : (tiers : List Tier) (low at : ℤ) (n : ℕ) → HasNoInner tiers low at n → ((e : ℤ) → end_at tiers n ≡ Some e → low <ℤ e → at ≤ℤ e) → HasNoInner tiers low at (n + 1)
 none_more tiers low at n none here k e lt is above = elim (cases_eq k n) [
@@ -42,7 +44,7 @@ gap_more : (P : ℕ → Type 0) (n : ℕ) → ((k : ℕ) → k < n → P k) → 
 gap_more P n before here k lt = elim (cases_eq k n) [ inl e ↦ subst P (sym e) here | inr ne ↦ before k (omega arith) ]
 
 -- the next group's difference isn't greater
-pub widest_same : (space : Space) (groups : List Peak) (n : ℕ) (found : Option ℕ) (greatest : ℤ) → IsWidestTo space groups n found greatest → gap_at space groups n ≤ℤ greatest → IsWidestTo space groups (n + 1) found greatest
+pub widest_same : (space : Space) (groups : List Group) (n : ℕ) (found : Option ℕ) (greatest : ℤ) → IsWidestTo space groups n found greatest → gap_at space groups n ≤ℤ greatest → IsWidestTo space groups (n + 1) found greatest
 widest_same space groups n None greatest w le = (w.0, gap_more (λ k. gap_at space groups k ≤ℤ pos 0) n w.1 (subst (λ z. gap_at space groups n ≤ℤ z) w.0 le))
 widest_same space groups n (Some g) greatest w le = (
   w.0,
@@ -54,12 +56,12 @@ widest_same space groups n (Some g) greatest w le = (
   },
 )
 
-below_greatest : (space : Space) (groups : List Peak) (n : ℕ) (found : Option ℕ) (greatest : ℤ) → IsWidestTo space groups n found greatest → (pos 0 ≤ℤ greatest) × ((k : ℕ) → k < n → gap_at space groups k ≤ℤ greatest)
+below_greatest : (space : Space) (groups : List Group) (n : ℕ) (found : Option ℕ) (greatest : ℤ) → IsWidestTo space groups n found greatest → (pos 0 ≤ℤ greatest) × ((k : ℕ) → k < n → gap_at space groups k ≤ℤ greatest)
 below_greatest space groups n None greatest w = (subst (λ z. pos 0 ≤ℤ z) (sym w.0) (omega (arith, ints)), λ k lt. subst (λ z. gap_at space groups k ≤ℤ z) (sym w.0) (w.1 k lt))
 below_greatest space groups n (Some g) greatest w = (subst (λ z. pos 0 ≤ℤ z) (sym w.0) (let s = w.1.some in omega (arith, ints)), λ k lt. subst (λ z. gap_at space groups k ≤ℤ z) (sym w.0) (w.1.greatest k lt))
 
 -- the next group's difference is greater
-pub widest_more : (space : Space) (groups : List Peak) (n : ℕ) (found : Option ℕ) (greatest gap : ℤ) → IsWidestTo space groups n found greatest → gap ≡ gap_at space groups n → greatest <ℤ gap → IsWidestTo space groups (n + 1) (Some n) gap
+pub widest_more : (space : Space) (groups : List Group) (n : ℕ) (found : Option ℕ) (greatest gap : ℤ) → IsWidestTo space groups n found greatest → gap ≡ gap_at space groups n → greatest <ℤ gap → IsWidestTo space groups (n + 1) (Some n) gap
 widest_more space groups n found greatest gap w is lt =
     let b = below_greatest space groups n found greatest w in
     let over : greatest <ℤ gap_at space groups n = subst (λ z. greatest <ℤ z) is lt in (
@@ -84,3 +86,8 @@ gt_from x y e = grind (arith, ints)
 
 pub not_gt : (x y : ℤ) → is_gt (int_cmp x y) ≡ false → x ≤ℤ y
 not_gt x y e = grind (arith, ints)
+
+-- the difference of the group at this place
+pub gap_here : (space : Space) (groups : List Group) (n : ℕ) (peak : Group) (z : ℤ) → n < length groups → peak ≡ slice_index_or groups n peak
+    → z ≡ peak_gap peak (range_at space.peaks n) → z ≡ gap_at space groups n
+gap_here space groups n peak z lt is e = e ∙ ap (λ p. peak_gap p (range_at space.peaks n)) (is ∙ get_or_default groups n peak no_peak lt)

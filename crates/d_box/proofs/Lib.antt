@@ -1,4 +1,5 @@
 pub mod HalfFacts
 mod ListFacts
 mod FoundFacts
+mod SizeFacts
 mod SplitFacts

@@ -7,9 +7,10 @@ use Rattle.std.proofs.lemmas.Int.{ints}
 use Rattle.d_tier.specs.declared.tier.Tier.{Tier}
 use Rattle.d_box.specs.declared.space.Range.{Range}
 use Rattle.d_box.specs.declared.space.Space.{Space}
-use Rattle.d_tier.specs.declared.peak.Peak.{Peak}
+use Rattle.d_tier.specs.declared.peak.Peak.{Peak as Group}
+use Rattle.d_tier.specs.Charges.{peak_charge}
 use Rattle.d_box.specs.Boxes.{range_at, number_at, IsPeakCut}
-use Rattle.d_box.specs.Splits.{IsRising, HaveSameMembers, lists_of, list_at, AreCandidatesOf, AreCandidatesTo, peak_charge, peak_gap, gap_at, no_peak, IsWidest, IsWidestGroup, AreEnds, in_range, middle, IsMiddleCut, HasNoTotal, IsPeakSplit}
+use Rattle.d_box.specs.Splits.{IsRising, HaveSameMembers, lists_of, list_at, AreCandidatesOf, AreCandidatesTo, peak_gap, gap_at, no_peak, IsWidest, IsWidestGroup, AreEnds, in_range, middle, IsMiddleCut, HasNoTotal, IsPeakSplit}
 use Rattle.d_box.proofs.ListFacts.{two, cut_at, middle_inside}
 
 same_both : (a b c : List ℤ) → HaveSameMembers a b → HaveSameMembers b c → HaveSameMembers a c
@@ -35,20 +36,20 @@ rise_more old lists n xs to lt rises same = record {
 pub all_rise : (old lists : List (List ℤ)) (n : ℕ) → AreCandidatesTo old lists n → length lists ≤ n → All IsRising lists
 all_rise old lists n to over k d lt = subst IsRising (get_or_default lists k [] d lt) (to.rise k (omega arith))
 
-ends_apart : (peak : Peak) (range : Range) → pos 0 <ℤ peak_gap peak range → range.low ≢ range.high
+ends_apart : (peak : Group) (range : Range) → pos 0 <ℤ peak_gap peak range → range.low ≢ range.high
 ends_apart peak range some e =
     let h = subst (λ z. pos 0 <ℤ (peak_charge peak range.high -ℤ peak_charge peak z)) e some in
     omega (arith, ints)
 
-pub widest_is : (space : Space) (groups : List Peak) (found : Option ℕ) (group : ℕ) → IsWidest space groups (length groups) found → found ≡ Some group → IsWidestGroup space groups (length groups) group
+pub widest_is : (space : Space) (groups : List Group) (found : Option ℕ) (group : ℕ) → IsWidest space groups (length groups) found → found ≡ Some group → IsWidestGroup space groups (length groups) group
 widest_is space groups found group w e = subst (λ f. IsWidest space groups (length groups) f) e w
 
-pub found_two : (space : Space) (groups : List Peak) (candidates : List (List ℤ)) (group : ℕ) → IsWidestGroup space groups (length groups) group → length candidates ≡ length groups → AreEnds space candidates → 2 ≤ length (in_range (range_at space.peaks group) (list_at candidates group))
+pub found_two : (space : Space) (groups : List Group) (candidates : List (List ℤ)) (group : ℕ) → IsWidestGroup space groups (length groups) group → length candidates ≡ length groups → AreEnds space candidates → 2 ≤ length (in_range (range_at space.peaks group) (list_at candidates group))
 found_two space groups candidates group w long ends =
     two (list_at candidates group) (range_at space.peaks group) (ends group (subst (λ n. group < n) (sym long) w.inside))
     (ends_apart (slice_index_or groups group no_peak) (range_at space.peaks group) w.some)
 
-pub peak_split : (space : Space) (energy : List (List Tier)) (groups : List Peak) (candidates : List (List ℤ)) (group : ℕ) (at : ℤ) → HasNoTotal space energy (length energy) → IsWidestGroup space groups (length groups) group
+pub peak_split : (space : Space) (energy : List (List Tier)) (groups : List Group) (candidates : List (List ℤ)) (group : ℕ) (at : ℤ) → HasNoTotal space energy (length energy) → IsWidestGroup space groups (length groups) group
     → length candidates ≡ length groups → AreEnds space candidates → All IsRising candidates
     → at ≡ number_at (in_range (range_at space.peaks group) (list_at candidates group)) (middle (length (in_range (range_at space.peaks group) (list_at candidates group))))
     → IsPeakSplit space energy groups candidates group at
@@ -82,7 +83,7 @@ lists_more old lists g end v w to lt is e rises same =
     (rise_more (lists_of old) (lists_of lists) g w.items to (omega arith) rises (subst (λ q. HaveSameMembers q w.items) (sym (items_at lists g v (omega arith) e)) same))
 
 -- the split that the code finds
-pub split_found : (space : Space) (energy : List (List Tier)) (groups : List Peak) (candidates : List (List ℤ)) (group : ℕ) (at : ℤ) (list : List ℤ) (count : ℕ) → HasNoTotal space energy (length energy) → IsWidestGroup space groups (length groups) group
+pub split_found : (space : Space) (energy : List (List Tier)) (groups : List Group) (candidates : List (List ℤ)) (group : ℕ) (at : ℤ) (list : List ℤ) (count : ℕ) → HasNoTotal space energy (length energy) → IsWidestGroup space groups (length groups) group
     → length candidates ≡ length groups → AreEnds space candidates → All IsRising candidates
     → list ≡ list_at candidates group → count ≡ length (in_range (range_at space.peaks group) list) → at ≡ number_at (in_range (range_at space.peaks group) list) (middle count)
     → IsPeakSplit space energy groups candidates group at

@@ -10,7 +10,7 @@ use Rattle.d_box.specs.declared.space.Range.{Range}
 use Rattle.d_box.specs.declared.space.Space.{Space}
 use Rattle.d_box.specs.declared.space.Split.{Split}
 use Rattle.d_box.specs.declared.space.Split.TheVariants.{Total, Peak}
-use Rattle.d_tier.specs.declared.peak.Peak.{Peak}
+use Rattle.d_tier.specs.declared.peak.Peak.{Peak as Group}
 use Rattle.d_box.specs.Boxes.{range_at, number_at, IsPeakCut}
 
 -- each number is below all later ones
@@ -34,11 +34,11 @@ pub record AreCandidatesOf (old new : List (List ℤ)) : Type 0 where
   pub same : (group : ℕ) → group < length old → HaveSameMembers (list_at old group) (list_at new group)
 
 -- a group's prices are from 0 to 3000 USD per kW (our own limit)
-abbrev pub HasDemandPrices : Peak → Type 0
+abbrev pub HasDemandPrices : Group → Type 0
 HasDemandPrices peak = All (λ tier. IsUpTo (3 * 10 ^ 21) tier.price) peak.tiers
 
 -- how much more the high end costs than the low end
-abbrev pub peak_gap : Peak → Range → ℤ
+abbrev pub peak_gap : Group → Range → ℤ
 peak_gap peak range = peak_charge peak range.high -ℤ peak_charge peak range.low
 
 -- none of the first n tiers ends strictly between both amounts
@@ -77,25 +77,25 @@ IsFirstTotal space energy n None = HasNoTotal space energy n
 IsFirstTotal space energy n (Some (Total index at)) = IsFirstInner space energy n index at
 IsFirstTotal space energy n (Some (Peak group at)) = ⊥
 
-abbrev pub no_peak : Peak
+abbrev pub no_peak : Group
 no_peak = record { tiers = []; floor = pos 0 }
 
 -- the difference of this group's charge between both ends of its range
-abbrev pub gap_at : Space → List Peak → ℕ → ℤ
+abbrev pub gap_at : Space → List Group → ℕ → ℤ
 gap_at space groups group = peak_gap (slice_index_or groups group no_peak) (range_at space.peaks group)
 
 -- no difference of the first n groups is above 0
-abbrev pub HasNoGap : Space → List Peak → ℕ → Type 0
+abbrev pub HasNoGap : Space → List Group → ℕ → Type 0
 HasNoGap space groups n = (k : ℕ) → k < n → gap_at space groups k ≤ℤ pos 0
 
 -- the first of the first n groups with the greatest difference, which is above 0
-pub record IsWidestGroup (space : Space) (groups : List Peak) (n group : ℕ) : Type 0 where
+pub record IsWidestGroup (space : Space) (groups : List Group) (n group : ℕ) : Type 0 where
   pub inside : group < n
   pub some : pos 0 <ℤ gap_at space groups group
   pub greatest : (k : ℕ) → k < n → gap_at space groups k ≤ℤ gap_at space groups group
   pub first : (k : ℕ) → k < group → gap_at space groups k <ℤ gap_at space groups group
 
-abbrev pub IsWidest : Space → List Peak → ℕ → Option ℕ → Type 0
+abbrev pub IsWidest : Space → List Group → ℕ → Option ℕ → Type 0
 IsWidest space groups n None = HasNoGap space groups n
 IsWidest space groups n (Some group) = IsWidestGroup space groups n group
 
@@ -118,17 +118,17 @@ pub record IsMiddleCut (candidates : List ℤ) (range : Range) (at : ℤ) : Type
   pub cut : IsPeakCut candidates range at above
 
 -- no end of a tier lies strictly inside a total's range
-pub record IsPeakSplit (space : Space) (energy : List (List Tier)) (groups : List Peak) (candidates : List (List ℤ)) (group : ℕ) (at : ℤ) : Type 0 where
+pub record IsPeakSplit (space : Space) (energy : List (List Tier)) (groups : List Group) (candidates : List (List ℤ)) (group : ℕ) (at : ℤ) : Type 0 where
   pub no_total : HasNoTotal space energy (length energy)
   pub widest : IsWidestGroup space groups (length groups) group
   pub cut : IsMiddleCut (list_at candidates group) (range_at space.peaks group) at
 
 -- nowhere to split: no end strictly inside a total's range, and no difference of demand charges
-pub record IsPoint (space : Space) (energy : List (List Tier)) (groups : List Peak) : Type 0 where
+pub record IsPoint (space : Space) (energy : List (List Tier)) (groups : List Group) : Type 0 where
   pub no_total : HasNoTotal space energy (length energy)
   pub no_gap : HasNoGap space groups (length groups)
 
-abbrev pub IsSplitOf : Space → List (List Tier) → List Peak → List (List ℤ) → Option Split → Type 0
+abbrev pub IsSplitOf : Space → List (List Tier) → List Group → List (List ℤ) → Option Split → Type 0
 IsSplitOf space energy groups candidates None = IsPoint space energy groups
 IsSplitOf space energy groups candidates (Some (Total index at)) = IsFirstInner space energy (length energy) index at
 IsSplitOf space energy groups candidates (Some (Peak group at)) = IsPeakSplit space energy groups candidates group at
@@ -153,7 +153,7 @@ pub record IsLowestTo (tiers : List Tier) (low high : ℤ) (n : ℕ) (lowest : �
   pub reached : (lowest ≡ high) ⊎ IsLowestInner tiers low high n lowest
 
 -- what the loop over groups has found
-abbrev pub IsWidestTo : Space → List Peak → ℕ → Option ℕ → ℤ → Type 0
+abbrev pub IsWidestTo : Space → List Group → ℕ → Option ℕ → ℤ → Type 0
 IsWidestTo space groups n None greatest = (greatest ≡ pos 0) × HasNoGap space groups n
 IsWidestTo space groups n (Some group) greatest = (greatest ≡ gap_at space groups group) × IsWidestGroup space groups n group
 

@@ -1,6 +1,6 @@
 //! Where a box is split.
 
-ghost use Rattle.std.specs.Prelude.{◌≡◌, ◌≤◌, ◌<◌, ◌+◌, ◌*◌, ◌^◌, ◌<ℤ◌, ◌≤ℤ◌, length, slice_index_or, [], IsTrue, ◌↔◌, IsNone, IfSome};
+ghost use Rattle.std.specs.Prelude.{◌≡◌, ◌≤◌, ◌<◌, ◌+◌, ◌*◌, ◌^◌, length};
 ghost use Rattle.std.specs.List.{Contains, All};
 ghost use Rattle.d_tier.specs.Charges.{peak_charge};
 ghost use Rattle.d_num.specs.Amount.{IsWithin, IsWatt};
