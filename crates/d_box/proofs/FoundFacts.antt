@@ -10,7 +10,9 @@ use Rattle.std.proofs.Common.{is_gt, int_cmp, true, false}
 use Rattle.d_tier.specs.declared.peak.Peak.{Peak as Group}
 use Rattle.std.proofs.lemmas.List.{get_or_default}
 use Rattle.d_box.specs.Boxes.{range_at}
-use Rattle.d_box.specs.Splits.{peak_gap, no_peak, HasNoInner, IsLowestInner, IsLowestTo, IsLowered, HasNoGap, gap_at, IsWidestGroup, IsWidestTo}
+use Rattle.d_box.specs.TierEnds.{HasNoInner, IsLowestInner}
+use Rattle.d_box.specs.Splits.{peak_gap, no_peak, HasNoGap, gap_at, IsWidestGroup}
+use Rattle.d_box.specs.Steps.{IsLowestTo, IsLowered, IsWidestTo}
 
 none_more : (tiers : List Tier) (low at : ℤ) (n : ℕ) → HasNoInner tiers low at n → ((e : ℤ) → end_at tiers n ≡ Some e → low <ℤ e → at ≤ℤ e) → HasNoInner tiers low at (n + 1)
 none_more tiers low at n none here k e lt is above = elim (cases_eq k n) [

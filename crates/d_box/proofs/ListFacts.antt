@@ -13,7 +13,8 @@ use Rattle.std.proofs.lemmas.List.Kept.{AllPairs-cons, AllPairs-filter, IsStrict
 use Rattle.std.proofs.lemmas.List.Sorted.{Contains-permutation, IsPermutation-sym}
 use Rattle.d_box.specs.declared.space.Range.{Range}
 use Rattle.d_box.specs.Boxes.{number_at, IsPeakCut}
-use Rattle.d_box.specs.Splits.{IsRising, HaveSameMembers, is_in, in_range, middle, IsRangeOf}
+use Rattle.d_box.specs.Candidates.{IsRising, HaveSameMembers, is_in, in_range, IsRangeOf}
+use Rattle.d_box.specs.Splits.{middle}
 
 below_from : (x y : ℤ) → int_cmp x y ≡ Less → x <ℤ y
 below_from x y e = subst (λ r. MatchOrdering r (x <ℤ y) (x ≡ y) (y <ℤ x)) e (int_ranked x y (int_cmp x y) refl)

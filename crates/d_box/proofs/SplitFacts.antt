@@ -10,7 +10,9 @@ use Rattle.d_box.specs.declared.space.Space.{Space}
 use Rattle.d_tier.specs.declared.peak.Peak.{Peak as Group}
 use Rattle.d_tier.specs.Charges.{peak_charge}
 use Rattle.d_box.specs.Boxes.{range_at, number_at, IsPeakCut}
-use Rattle.d_box.specs.Splits.{IsRising, HaveSameMembers, lists_of, list_at, AreCandidatesOf, AreCandidatesTo, peak_gap, gap_at, no_peak, IsWidest, IsWidestGroup, AreEnds, in_range, middle, IsMiddleCut, HasNoTotal, IsPeakSplit}
+use Rattle.d_box.specs.Candidates.{IsRising, HaveSameMembers, lists_of, list_at, AreCandidatesOf, AreEnds, in_range}
+use Rattle.d_box.specs.Splits.{peak_gap, gap_at, no_peak, IsWidestGroup, middle, IsMiddleCut, HasNoTotal, IsPeakSplit}
+use Rattle.d_box.specs.Steps.{AreCandidatesTo, IsWidest}
 use Rattle.d_box.proofs.ListFacts.{two, cut_at, middle_inside}
 
 same_both : (a b c : List ℤ) → HaveSameMembers a b → HaveSameMembers b c → HaveSameMembers a c

@@ -54,11 +54,6 @@ abbrev pub IsSplitThere : Split → Type 0
 IsSplitThere (Total index at) = index < 36
 IsSplitThere (Peak group at) = group < 37
 
--- a total's range is cut strictly inside
-pub record IsTotalCut (range : Range) (at : ℤ) : Type 0 where
-  pub low : range.low <ℤ at
-  pub high : at <ℤ range.high
-
 -- a peak's range is cut between two neighbours among its candidates
 pub record IsPeakCut (candidates : List ℤ) (range : Range) (at above : ℤ) : Type 0 where
   pub low : range.low ≤ℤ at

@@ -2,7 +2,7 @@
 
 ghost use Rattle.std.specs.Prelude.{◌≡◌, ◌<◌, [], length, slice_index_or, ℤ};
 ghost use Rattle.std.specs.List.{Contains, All};
-ghost use Rattle.d_box.specs.Splits.{IsRising, AreCandidatesOf, HaveSameMembers, lists_of};
+ghost use Rattle.d_box.specs.Candidates.{IsRising, AreCandidatesOf, HaveSameMembers, lists_of};
 
 use std::marker::Model;
 
@@ -18,7 +18,7 @@ impl Model for Candidates {
 
     ghost Value = { List (List ℤ) };
 
-    ghost use Rattle.d_box.specs.Splits.{IsRising};
+    ghost use Rattle.d_box.specs.Candidates.{IsRising};
 
     ghost view = { λ a. map (λ r. r.items) a.lists.items };
 

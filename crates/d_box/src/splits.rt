@@ -5,7 +5,10 @@ ghost use Rattle.std.specs.List.{Contains, All};
 ghost use Rattle.d_tier.specs.Charges.{peak_charge};
 ghost use Rattle.d_num.specs.Amount.{IsWithin, IsWatt};
 ghost use Rattle.d_box.specs.Boxes.{IsIn, IsBox, range_at, number_at, IsPeakCut};
-ghost use Rattle.d_box.specs.Splits.{IsInnerEnd, IsFirstTotal, IsWidest, IsSplitOf, AreEnds, IsRising, is_in, in_range, middle, peak_gap, IsLowered, HasDemandPrices, ArePowers};
+ghost use Rattle.d_box.specs.Candidates.{AreEnds, IsRising, is_in, in_range};
+ghost use Rattle.d_box.specs.TierEnds.{IsInnerEnd};
+ghost use Rattle.d_box.specs.Splits.{IsSplitOf, middle, peak_gap, HasDemandPrices};
+ghost use Rattle.d_box.specs.Steps.{IsFirstTotal, IsWidest, IsLowered, ArePowers};
 
 use crate::candidates::Candidates;
 use crate::space::{Range, Space, Split};

@@ -1,5 +1,5 @@
 use Rattle.std.proofs.Common.{◌+◌, ◌≡◌, length, drop}
-use Rattle.d_box.specs.Splits.{in_range}
+use Rattle.d_box.specs.Candidates.{in_range}
 use Rattle.d_box.proofs.splits.count_in.Given as goal
 
 abbrev pub invariant-loop-place : goal.invariant-loop-place

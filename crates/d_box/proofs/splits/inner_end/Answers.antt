@@ -1,6 +1,6 @@
 use Rattle.std.proofs.Common.{rules, w64, sym, subst, ◌+◌}
 use Rattle.std.proofs.lemmas.Int.{to_z-of_z}
-use Rattle.d_box.specs.Splits.{IsLowestTo}
+use Rattle.d_box.specs.Steps.{IsLowestTo}
 use Rattle.d_box.proofs.FoundFacts.{inner_step}
 use Rattle.d_box.proofs.splits.inner_end.Goals as goal
 

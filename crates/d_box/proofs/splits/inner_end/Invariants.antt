@@ -1,4 +1,4 @@
-use Rattle.d_box.specs.Splits.{IsLowestTo}
+use Rattle.d_box.specs.Steps.{IsLowestTo}
 use Rattle.d_box.proofs.splits.inner_end.Given as goal
 
 abbrev pub invariant-loop-tier : goal.invariant-loop-tier

@@ -1,5 +1,5 @@
 use Rattle.std.proofs.Common.{◌<◌, ◌≡◌, length, drop}
-use Rattle.d_box.specs.Splits.{in_range}
+use Rattle.d_box.specs.Candidates.{in_range}
 use Rattle.d_box.specs.Boxes.{number_at}
 use Rattle.d_box.proofs.splits.pick.Given as goal
 

@@ -1,4 +1,4 @@
-use Rattle.d_box.specs.Splits.{IsWidestTo}
+use Rattle.d_box.specs.Steps.{IsWidestTo}
 use Rattle.d_box.proofs.splits.widest.Given as goal
 
 abbrev pub invariant-loop-group : goal.invariant-loop-group

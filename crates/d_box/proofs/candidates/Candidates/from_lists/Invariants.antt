@@ -1,4 +1,5 @@
-use Rattle.d_box.specs.Splits.{AreCandidatesTo, lists_of}
+use Rattle.d_box.specs.Candidates.{lists_of}
+use Rattle.d_box.specs.Steps.{AreCandidatesTo}
 use Rattle.d_box.proofs.candidates.Candidates.from_lists.Given as goal
 
 abbrev pub invariant-loop-group : goal.invariant-loop-group

@@ -1,0 +1,21 @@
+-- Where a table of tiers changes its price strictly between two amounts.
+use Rattle.std.specs.Prelude.{ℕ, ℤ, ◌≤ℤ◌, ◌<ℤ◌, ◌≡◌, ◌<◌, List, Option, Some, None}
+use Rattle.d_tier.specs.Tables.{end_at}
+use Rattle.d_tier.specs.declared.tier.Tier.{Tier}
+
+-- none of the first n tiers ends strictly between both amounts
+abbrev pub HasNoInner : List Tier → ℤ → ℤ → ℕ → Type 0
+HasNoInner tiers low high n = (k : ℕ) (end : ℤ) → k < n → end_at tiers k ≡ Some end → low <ℤ end → high ≤ℤ end
+
+-- this is the lowest end of the first n tiers strictly between both amounts
+pub record IsLowestInner (tiers : List Tier) (low high : ℤ) (n : ℕ) (at : ℤ) : Type 0 where
+  pub tier : ℕ
+  pub inside : tier < n
+  pub there : end_at tiers tier ≡ Some at
+  pub above : low <ℤ at
+  pub below : at <ℤ high
+  pub lowest : HasNoInner tiers low at n
+
+abbrev pub IsInnerEnd : List Tier → ℤ → ℤ → ℕ → Option ℤ → Type 0
+IsInnerEnd tiers low high n None = HasNoInner tiers low high n
+IsInnerEnd tiers low high n (Some at) = IsLowestInner tiers low high n at
