@@ -1,7 +1,7 @@
 -- What the loops over tiers and groups find.
-use Rattle.std.proofs.Common.{ℕ, ℤ, suc, zero, pos, ◌≤ℤ◌, ◌<ℤ◌, ◌≡◌, ◌≢◌, ◌⊎◌, ◌<◌, ◌≤◌, ◌+◌, ◌-◌, List, [], ◌∷◌, Option, Some, None, length, slice_index_or, sym, subst, ap, refl, inl, inr, arith, ◌∙◌}
-use Rattle.std.proofs.lemmas.Bool.{cases_eq, cases_lt}
-use Rattle.std.proofs.lemmas.Int.{ints, by_lt_z}
+use Rattle.std.proofs.Common.{ℕ, ℤ, pos, ◌≤ℤ◌, ◌<ℤ◌, ◌≡◌, ◌<◌, ◌+◌, List, Option, Some, None, length, slice_index_or, sym, subst, ap, inl, inr, arith, ◌∙◌}
+use Rattle.std.proofs.lemmas.Bool.{cases_eq}
+use Rattle.std.proofs.lemmas.Int.{ints}
 use Rattle.d_tier.specs.declared.tier.Tier.{Tier}
 use Rattle.d_tier.specs.Tables.{end_at}
 use Rattle.d_box.specs.declared.space.Range.{Range}
@@ -10,8 +10,8 @@ use Rattle.std.proofs.Common.{is_gt, int_cmp, true, false}
 use Rattle.d_tier.specs.declared.peak.Peak.{Peak as Group}
 use Rattle.std.proofs.lemmas.List.{get_or_default}
 use Rattle.d_box.specs.Boxes.{range_at}
-use Rattle.d_box.specs.TierEnds.{HasNoInner, IsLowestInner}
-use Rattle.d_box.specs.Splits.{peak_gap, no_peak, HasNoGap, gap_at, IsWidestGroup}
+use Rattle.d_box.specs.TierEnds.{HasNoInner}
+use Rattle.d_box.specs.Splits.{peak_gap, no_peak, gap_at}
 use Rattle.d_box.specs.Steps.{IsLowestTo, IsLowered, IsWidestTo}
 
 none_more : (tiers : List Tier) (low at : ℤ) (n : ℕ) → HasNoInner tiers low at n → ((e : ℤ) → end_at tiers n ≡ Some e → low <ℤ e → at ≤ℤ e) → HasNoInner tiers low at (n + 1)

@@ -1,4 +1,5 @@
 pub mod HalfFacts
+pub mod CombinationFacts
 mod ListFacts
 mod FoundFacts
 mod SizeFacts

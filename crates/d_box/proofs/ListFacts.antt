@@ -1,19 +1,19 @@
 -- Rising lists of candidates, and what a range has of them.
-use Rattle.std.proofs.Common.{Less, ℕ, ℤ, suc, zero, pos, Bool, true, false, cond, ◌≤ℤ◌, ◌<ℤ◌, ◌≡◌, ◌≢◌, ◌⊎◌, ◌<◌, ◌≤◌, ◌+◌, ◌-◌, ◌/◌, ◌&&◌, int_le, List, [], ◌∷◌, length, drop, slice_index_or, sym, subst, ap, refl, inl, inr, arith, ◌∙◌, IsTrue}
-use Rattle.std.specs.List.{Contains, All, AllPairs, filter, dedup}
+use Rattle.std.proofs.Common.{Less, ℕ, ℤ, suc, zero, pos, Bool, true, false, cond, ◌≤ℤ◌, ◌<ℤ◌, ◌≡◌, ◌≢◌, ◌⊎◌, ◌<◌, ◌≤◌, ◌+◌, int_lt, Some, List, [], ◌∷◌, length, drop, sym, subst, ap, refl, inl, inr, arith, ◌∙◌}
+use Rattle.std.specs.List.{Contains, filter, find, dedup}
 use Rattle.std.specs.List.Sorted.{IsStrictlySortedBy, IsSorted, IsPermutation}
 use Rattle.std.specs.Ordering.{int_cmp, int_eq, MatchOrdering}
 use Rattle.std.proofs.lemmas.Cmp.{int_ranked, int_cmp_total, int_eq_equiv}
 use Rattle.std.proofs.lemmas.Bool.{cases_eq, cases_lt}
 use Rattle.std.proofs.lemmas.Int.{ints, by_lt_z}
 use Rattle.std.proofs.lemmas.List.{get_or_default, at_drop_more}
-use Rattle.std.proofs.lemmas.List.Elements.{All-from_recursion, filter_passes, All-filter, Contains-get_or, Contains-from_at}
-use Rattle.std.proofs.lemmas.List.Filters.{length-filter_both, dedup_is}
+use Rattle.std.proofs.lemmas.List.Elements.{All-from_recursion, filter_passes, All-filter, Contains-get_or}
 use Rattle.std.proofs.lemmas.List.Kept.{AllPairs-cons, AllPairs-filter, IsStrictlySortedBy-dedup, Contains-dedup, Contains-from_dedup}
 use Rattle.std.proofs.lemmas.List.Sorted.{Contains-permutation, IsPermutation-sym}
+use Rattle.std.proofs.lemmas.Map.Made.{Contains-tail}
 use Rattle.d_box.specs.declared.space.Range.{Range}
 use Rattle.d_box.specs.Boxes.{number_at, IsPeakCut}
-use Rattle.d_box.specs.Candidates.{IsRising, HaveSameMembers, is_in, in_range, IsRangeOf}
+use Rattle.d_box.specs.Candidates.{IsRising, HaveSameMembers, is_in, in_range, next_above, IsRangeOf}
 use Rattle.d_box.specs.Splits.{middle}
 
 below_from : (x y : ℤ) → int_cmp x y ≡ Less → x <ℤ y
@@ -71,7 +71,7 @@ contains_filter p (y ∷ ys) x (suc k) lt at t =
 in_from : (r : Range) (c : ℤ) → is_in r c ≡ true → (r.low ≤ℤ c) × (c ≤ℤ r.high)
 in_from r c e = grind (arith, ints)
 
-in_test : (r : Range) (c : ℤ) → r.low ≤ℤ c → c ≤ℤ r.high → is_in r c ≡ true
+pub in_test : (r : Range) (c : ℤ) → r.low ≤ℤ c → c ≤ℤ r.high → is_in r c ≡ true
 in_test r c a b = grind (arith, ints)
 
 -- a number of a rising list is at or before one place, or at or after the next
@@ -108,6 +108,51 @@ cut_at xs r m rising more =
           (λ high. let t = there xs c h in let f = contains_filter (is_in r) xs c t.0 t.1 t.2 (in_test r c low high) in
           next_of q m rise more c f));
     }
+
+-- a candidate that the range has is counted
+pub is_counted : (xs : List ℤ) (r : Range) (x : ℤ) → Contains xs x → is_in r x ≡ true → 1 ≤ length (in_range r xs)
+is_counted xs r x h test = let t = there xs x h in let f = contains_filter (is_in r) xs x t.0 t.1 t.2 test in let lt = f.1 in omega arith
+
+above_test : (at x : ℤ) → at <ℤ x → int_lt at x ≡ true
+above_test at x lt = grind (arith, ints)
+
+not_above_test : (at x : ℤ) → x ≤ℤ at → int_lt at x ≡ false
+not_above_test at x le = grind (arith, ints)
+
+is_there : (list : List ℤ) (y : ℤ) (has : Contains list y) → number_at list has.0 ≡ y
+is_there list y has = get_or_default list has.0 (pos 0) y has.1 ∙ has.2
+
+-- what is found above the lower of two neighbours is the higher
+found_next : (xs : List ℤ) (at above : ℤ) → IsRising xs → at <ℤ above → Contains xs above
+    → ((c : ℤ) → Contains xs c → (c ≤ℤ at) ⊎ (above ≤ℤ c)) → find (int_lt at) xs ≡ Some above
+found_next [] at above rising apart has next = let lt = has.1 in absurd (omega arith)
+found_next (x ∷ xs) at above rising apart has next = elim (next x (zero, omega arith, refl)) [
+  | inl le ↦ rw (not_above_test at x le) (found_next xs at above (λ i j d lt in_list. rising (suc i) (suc j) d (omega arith) (omega arith)) apart
+      (Contains-tail x xs above (λ e. not_both x at above e le apart) has) (λ c m. next c (suc m.0, omega (arith, m.1), m.2)))
+  | inr ge ↦ rw (above_test at x (over at above x apart ge)) (ap Some (elim (cases_eq has.0 0) [
+    | inl e ↦ (there_at (x ∷ xs) above has 0 e)
+    | inr ne ↦ absurd (not_less x above ge (subst (λ z. x <ℤ z) (is_there (x ∷ xs) above has) (rising 0 has.0 (pos 0) (omega arith) has.1)))
+  ]))
+]
+  where
+    not_both : (x at above : ℤ) → x ≡ above → x ≤ℤ at → at <ℤ above → ⊥
+    not_both x at above e le lt = omega (arith, ints)
+
+    over : (at above x : ℤ) → at <ℤ above → above ≤ℤ x → at <ℤ x
+    over at above x lt ge = omega (arith, ints)
+
+    not_less : (x above : ℤ) → above ≤ℤ x → x <ℤ above → ⊥
+    not_less x above ge lt = omega (arith, ints)
+
+    there_at : (list : List ℤ) (y : ℤ) (has : Contains list y) (k : ℕ) → has.0 ≡ k → number_at list k ≡ y
+    there_at list y has k e = subst (λ n. number_at list n ≡ y) e (is_there list y has)
+
+pub next_is : (xs : List ℤ) (r : Range) (at above : ℤ) → IsRising xs → IsPeakCut xs r at above → next_above xs at ≡ above
+next_is xs r at above rising cut = rw (found_next xs at above rising cut.apart cut.there_above cut.next) refl
+
+-- a cut in a rising list, said of the next candidate
+pub cut_next : (xs : List ℤ) (r : Range) (at above : ℤ) → IsRising xs → IsPeakCut xs r at above → IsPeakCut xs r at (next_above xs at)
+cut_next xs r at above rising cut = subst (λ z. IsPeakCut xs r at z) (sym (next_is xs r at above rising cut)) cut
 
 -- both ends of a range, of which the low one is less, are two of those that it has
 pub two : (xs : List ℤ) (r : Range) → IsRangeOf xs r → r.low ≢ r.high → 2 ≤ length (in_range r xs)

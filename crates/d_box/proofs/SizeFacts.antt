@@ -1,5 +1,5 @@
 -- How great a group's charges are.
-use Rattle.std.proofs.Common.{ℕ, ℤ, pos, neg_ℤ, ◌≤ℤ◌, ◌≡◌, ◌^◌, List, Option, Some, IfSome, sym, subst, arith}
+use Rattle.std.proofs.Common.{ℕ, ℤ, ◌≡◌, ◌^◌, List, Option, Some, IfSome, sym, subst, arith}
 use Rattle.std.specs.List.{All}
 use Rattle.std.proofs.lemmas.Int.{ints}
 use Rattle.d_num.specs.Amount.{IsUpTo, IsWithin, IsWatt}

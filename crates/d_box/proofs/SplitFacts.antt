@@ -1,6 +1,6 @@
 -- The lists that are made candidates, and the split of a peak.
-use Rattle.std.proofs.Common.{ℕ, ℤ, pos, ◌≤ℤ◌, ◌<ℤ◌, ◌-ℤ◌, ◌≡◌, ◌≢◌, ◌<◌, ◌≤◌, ◌+◌, List, [], Option, Some, None, length, map, slice_index_or, slice_set, sym, subst, ap, refl, inl, inr, arith, ◌∙◌, Vec, Global}
-use Rattle.std.specs.List.{Contains, All}
+use Rattle.std.proofs.Common.{ℕ, ℤ, pos, ◌<ℤ◌, ◌-ℤ◌, ◌≡◌, ◌≢◌, ◌<◌, ◌≤◌, ◌+◌, List, [], Option, Some, length, slice_index_or, slice_set, sym, subst, ap, inl, inr, arith, ◌∙◌, Vec, Global}
+use Rattle.std.specs.List.{All}
 use Rattle.std.proofs.lemmas.List.{get_or-set_same, get_or-set_other, length-set, get_or_default, get_or-map, length-map, map-set}
 use Rattle.std.proofs.lemmas.Bool.{cases_eq}
 use Rattle.std.proofs.lemmas.Int.{ints}
@@ -10,10 +10,10 @@ use Rattle.d_box.specs.declared.space.Space.{Space}
 use Rattle.d_tier.specs.declared.peak.Peak.{Peak as Group}
 use Rattle.d_tier.specs.Charges.{peak_charge}
 use Rattle.d_box.specs.Boxes.{range_at, number_at, IsPeakCut}
-use Rattle.d_box.specs.Candidates.{IsRising, HaveSameMembers, lists_of, list_at, AreCandidatesOf, AreEnds, in_range}
-use Rattle.d_box.specs.Splits.{peak_gap, gap_at, no_peak, IsWidestGroup, middle, IsMiddleCut, HasNoTotal, IsPeakSplit}
+use Rattle.d_box.specs.Candidates.{IsRising, HaveSameMembers, lists_of, list_at, AreEnds, in_range}
+use Rattle.d_box.specs.Splits.{peak_gap, no_peak, IsWidestGroup, middle, HasNoTotal, IsPeakSplit}
 use Rattle.d_box.specs.Steps.{AreCandidatesTo, IsWidest}
-use Rattle.d_box.proofs.ListFacts.{two, cut_at, middle_inside}
+use Rattle.d_box.proofs.ListFacts.{two, cut_at, cut_next, middle_inside}
 
 same_both : (a b c : List ℤ) → HaveSameMembers a b → HaveSameMembers b c → HaveSameMembers a c
 same_both a b c x y = (λ n h. y.0 n (x.0 n h), λ n h. x.1 n (y.1 n h))
@@ -64,8 +64,9 @@ peak_split space energy groups candidates group at none w long ends rise is =
       widest = w;
       cut = record {
         middle = is;
-        above = number_at q (middle (length q) + 1);
-        cut = subst (λ z. IsPeakCut (list_at candidates group) (range_at space.peaks group) z (number_at q (middle (length q) + 1))) (sym is) (cut_at (list_at candidates group) (range_at space.peaks group) (middle (length q)) rising m);
+        cut = cut_next (list_at candidates group) (range_at space.peaks group) at (number_at q (middle (length q) + 1)) rising
+            (subst (λ z. IsPeakCut (list_at candidates group) (range_at space.peaks group) z (number_at q (middle (length q) + 1))) (sym is)
+            (cut_at (list_at candidates group) (range_at space.peaks group) (middle (length q)) rising m));
       };
     }
 

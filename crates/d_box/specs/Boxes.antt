@@ -54,6 +54,11 @@ abbrev pub IsSplitThere : Split → Type 0
 IsSplitThere (Total index at) = index < 36
 IsSplitThere (Peak group at) = group < 37
 
+-- a total's range is cut strictly inside
+pub record IsTotalCut (range : Range) (at : ℤ) : Type 0 where
+  pub low : range.low <ℤ at
+  pub high : at <ℤ range.high
+
 -- a peak's range is cut between two neighbours among its candidates
 pub record IsPeakCut (candidates : List ℤ) (range : Range) (at above : ℤ) : Type 0 where
   pub low : range.low ≤ℤ at
@@ -63,51 +68,23 @@ pub record IsPeakCut (candidates : List ℤ) (range : Range) (at above : ℤ) : 
   pub there_above : Contains candidates above
   pub next : (c : ℤ) → Contains candidates c → (c ≤ℤ at) ⊎ (above ≤ℤ c)
 
--- exactly one of both
-abbrev pub OneOf : Type 0 → Type 0 → Type 0
-OneOf A B = (A × (B → ⊥)) ⊎ (B × (A → ⊥))
-
--- what a box holds is held by exactly one half of a peak's split, where that peak is a candidate
-abbrev pub IsPeakCover : Type 0
-IsPeakCover =
-    (space : Space) (group : ℕ) (at above : ℤ) (candidates peaks totals : List ℤ) → group < length peaks → group < length space.peaks
-    → IsPeakCut candidates (range_at space.peaks group) at above → Contains candidates (number_at peaks group) → Holds space peaks totals
-    → OneOf (Holds (left_half space (Peak group at) at) peaks totals) (Holds (right_half space (Peak group at) above) peaks totals)
-
--- what a box holds is held by a half of a total's split
-abbrev pub IsTotalCover : Type 0
-IsTotalCover =
-    (space : Space) (index : ℕ) (at below above : ℤ) (peaks totals : List ℤ) → index < length space.totals → Holds space peaks totals
-    → Holds (left_half space (Total index at) below) peaks totals ⊎ Holds (right_half space (Total index at) above) peaks totals
-
--- the place of a split, and the candidates beside it, lie within the range that is split
-abbrev pub IsCutWithin : Space → Split → ℤ → ℤ → Type 0
-IsCutWithin space (Total index at) below above = (index < length space.totals) × ((range_at space.totals index).low ≤ℤ at) × (at ≤ℤ (range_at space.totals index).high)
-IsCutWithin space (Peak group at) below above = (group < length space.peaks) × ((range_at space.peaks group).low ≤ℤ below) × (below ≤ℤ above) × (above ≤ℤ (range_at space.peaks group).high)
-
--- both halves' ranges lie within the box's
+-- the range at each place lies within that of the other list
 pub record AreRangesWithin (inner outer : List Range) : Type 0 where
   pub low : (k : ℕ) → (range_at outer k).low ≤ℤ (range_at inner k).low
   pub high : (k : ℕ) → (range_at inner k).high ≤ℤ (range_at outer k).high
 
+-- what a box holds, the other holds too: each of its ranges lies within the other's
 pub record IsPart (inner outer : Space) : Type 0 where
   pub peaks : AreRangesWithin inner.peaks outer.peaks
   pub totals : AreRangesWithin inner.totals outer.totals
 
-abbrev pub AreWithin : Type 0
-AreWithin =
-    (space : Space) (split : Split) (below above : ℤ) → IsCutWithin space split below above
-    → IsPart (left_half space split below) space × IsPart (right_half space split above) space
-
--- 37 ranges of peaks and 36 of totals, none empty, from 0 on
+-- no range is empty or begins below 0
 abbrev pub AreRanges : List Range → Type 0
 AreRanges ranges = (k : ℕ) → (pos 0 ≤ℤ (range_at ranges k).low) × ((range_at ranges k).low ≤ℤ (range_at ranges k).high)
 
+-- 37 ranges of peaks and 36 of totals, none of them empty, all from 0 on
 pub record IsBox (space : Space) : Type 0 where
+  pub peaks_long : length space.peaks ≡ 37
+  pub totals_long : length space.totals ≡ 36
   pub peaks : AreRanges space.peaks
   pub totals : AreRanges space.totals
-
-abbrev pub AreBoxes : Type 0
-AreBoxes =
-    (space : Space) (split : Split) (below above : ℤ) → IsCutWithin space split below above → IsBox space
-    → IsBox (left_half space split below) × IsBox (right_half space split above)

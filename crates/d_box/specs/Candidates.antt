@@ -1,6 +1,6 @@
 -- The candidates of each group: the powers that its highest demand may have. All of it is our own rule.
-use Rattle.std.specs.Prelude.{ℕ, ℤ, pos, ◌≤ℤ◌, ◌<ℤ◌, ◌≡◌, ◌⊎◌, ◌<◌, ◌^◌, Bool, List, [], length, map, slice_index_or, int_le, ◌&&◌, Vec}
-use Rattle.std.specs.List.{Contains, AllPairs, filter}
+use Rattle.std.specs.Prelude.{ℕ, ℤ, pos, ◌≤ℤ◌, ◌<ℤ◌, ◌≡◌, ◌⊎◌, ◌<◌, ◌^◌, Bool, List, [], length, map, slice_index_or, int_le, int_lt, unwrap_or, ◌&&◌, Vec}
+use Rattle.std.specs.List.{Contains, AllPairs, filter, find}
 use Rattle.std.specs.declared.alloc.Global.{Global}
 use Rattle.d_box.specs.Boxes.{range_at}
 use Rattle.d_box.specs.declared.space.Range.{Range}
@@ -14,6 +14,7 @@ IsRising numbers = AllPairs (λ x y. x <ℤ y) numbers
 abbrev pub HaveSameMembers : List ℤ → List ℤ → Type 0
 HaveSameMembers old new = ((x : ℤ) → Contains old x → Contains new x) × ((x : ℤ) → Contains new x → Contains old x)
 
+-- the lists that a vector of vectors has
 abbrev pub lists_of : List (Vec ℤ Global) → List (List ℤ)
 lists_of lists = map (λ r. r.items) lists
 
@@ -21,7 +22,7 @@ lists_of lists = map (λ r. r.items) lists
 abbrev pub list_at : List (List ℤ) → ℕ → List ℤ
 list_at lists group = slice_index_or lists group []
 
--- list for list the same numbers
+-- as many lists, each with the same numbers
 pub record AreCandidatesOf (old new : List (List ℤ)) : Type 0 where
   pub long : length new ≡ length old
   pub same : (group : ℕ) → group < length old → HaveSameMembers (list_at old group) (list_at new group)
@@ -34,6 +35,10 @@ is_in range c = int_le range.low c && int_le c range.high
 abbrev pub in_range : Range → List ℤ → List ℤ
 in_range range numbers = filter (is_in range) numbers
 
+-- the first candidate above a power; that power itself where none is
+abbrev pub next_above : List ℤ → ℤ → ℤ
+next_above candidates at = unwrap_or (find (int_lt at) candidates) at
+
 -- a peak's range goes from a candidate to a candidate, or is one power alone; its powers are from 0 to 10^13 W
 pub record IsRangeOf (candidates : List ℤ) (range : Range) : Type 0 where
   pub floor : pos 0 ≤ℤ range.low
@@ -41,5 +46,6 @@ pub record IsRangeOf (candidates : List ℤ) (range : Range) : Type 0 where
   pub limit : range.high ≤ℤ pos (10 ^ 13)
   pub ends : (Contains candidates range.low × Contains candidates range.high) ⊎ (range.low ≡ range.high)
 
+-- the ranges of all groups' peaks are such ranges
 abbrev pub AreEnds : Space → List (List ℤ) → Type 0
 AreEnds space candidates = (group : ℕ) → group < length candidates → IsRangeOf (list_at candidates group) (range_at space.peaks group)

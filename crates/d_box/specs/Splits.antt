@@ -2,7 +2,7 @@
 use Rattle.std.specs.Prelude.{ℕ, ℤ, pos, ◌≤ℤ◌, ◌<ℤ◌, ◌-ℤ◌, ◌≡◌, ◌<◌, ◌-◌, ◌*◌, ◌^◌, ◌/◌, List, [], Option, Some, None, length, slice_index_or}
 use Rattle.std.specs.List.{All}
 use Rattle.d_box.specs.Boxes.{range_at, number_at, IsPeakCut}
-use Rattle.d_box.specs.Candidates.{list_at, in_range}
+use Rattle.d_box.specs.Candidates.{list_at, in_range, next_above}
 use Rattle.d_box.specs.TierEnds.{HasNoInner, IsLowestInner}
 use Rattle.d_box.specs.declared.space.Range.{Range}
 use Rattle.d_box.specs.declared.space.Space.{Space}
@@ -60,8 +60,7 @@ middle count = (count - 1) / 2
 -- a peak's range is split at the candidate in the middle of those that it has
 pub record IsMiddleCut (candidates : List ℤ) (range : Range) (at : ℤ) : Type 0 where
   pub middle : at ≡ number_at (in_range range candidates) (middle (length (in_range range candidates)))
-  pub above : ℤ
-  pub cut : IsPeakCut candidates range at above
+  pub cut : IsPeakCut candidates range at (next_above candidates at)
 
 -- no end of a tier lies strictly inside a total's range
 pub record IsPeakSplit (space : Space) (energy : List (List Tier)) (groups : List Group) (candidates : List (List ℤ)) (group : ℕ) (at : ℤ) : Type 0 where

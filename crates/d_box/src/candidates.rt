@@ -2,7 +2,7 @@
 
 ghost use Rattle.std.specs.Prelude.{◌≡◌, ◌<◌, [], length, slice_index_or, ℤ};
 ghost use Rattle.std.specs.List.{Contains, All};
-ghost use Rattle.d_box.specs.Candidates.{IsRising, AreCandidatesOf, HaveSameMembers, lists_of};
+ghost use Rattle.d_box.specs.Candidates.{IsRising, AreCandidatesOf, HaveSameMembers, lists_of, list_at, next_above};
 
 use std::marker::Model;
 
@@ -34,6 +34,18 @@ fn rise(list: &mut Vec<i64>)
     list.dedup();
 }
 
+// The first of these numbers above a power, or that power.
+fn first_above(list: &[i64], power: &i64) -> i64
+    ensures { result ≡ next_above list.now power.now }
+{
+    for candidate in list {
+        if *power < *candidate {
+            return *candidate;
+        }
+    }
+    *power
+}
+
 impl Candidates {
     /// The candidates in these lists, each once.
     pub fn from_lists(lists: Vec<Vec<i64>>) -> Candidates
@@ -53,5 +65,13 @@ impl Candidates {
         ensures rises { All IsRising self.now }
     {
         &self.lists[group as usize]
+    }
+
+    /// The first candidate of a group above a power, or that power where none is above it.
+    pub fn next_above(&self, group: u8, power: i64) -> i64
+        requires { group < length self.now }
+        ensures { result ≡ next_above (list_at self.now group) power }
+    {
+        first_above(self.list(group), &power)
     }
 }

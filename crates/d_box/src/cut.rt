@@ -1,11 +1,13 @@
 //! The halves of a split box.
 
-ghost use Rattle.std.specs.Prelude.{◌≡◌, ◌<◌, ℕ, ℤ};
-ghost use Rattle.d_box.specs.Boxes.{left_half, right_half, IsSplitThere, IsPeakCover, IsTotalCover, AreWithin, AreBoxes};
+ghost use Rattle.std.specs.Prelude.{◌≡◌};
+ghost use Rattle.d_box.specs.Boxes.{left_half, right_half, IsSplitThere};
 
 use crate::space::{Space, Split};
 
-/// Makes both halves of a box.
+/// Makes both halves of a box. A total is split at its place, which both halves have. A peak is split between two neighbours among its
+/// candidates: the left half ends at `below`, which is the place of the split, and the right half begins at `above`, the next candidate. Our
+/// own rule.
 pub fn halves(
     space: &Space,
     split: Split,
@@ -31,23 +33,3 @@ pub fn halves(
         }
     }
 }
-
-/// What the box holds, with a peak among the candidates, exactly one half of a peak's split holds.
-pub fn peak_halves_cover()
-    ensures { IsPeakCover }
-{}
-
-/// What the box holds, a half of a total's split holds.
-pub fn total_halves_cover()
-    ensures { IsTotalCover }
-{}
-
-/// What a half holds, its box holds.
-pub fn halves_are_within()
-    ensures { AreWithin }
-{}
-
-/// The halves of a box are boxes.
-pub fn halves_are_boxes()
-    ensures { AreBoxes }
-{}

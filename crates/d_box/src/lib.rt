@@ -7,11 +7,16 @@
 mod candidates;
 mod cut;
 mod held;
+mod law;
 mod space;
 mod splits;
 
 pub use candidates::Candidates;
-pub use cut::{halves, halves_are_boxes, halves_are_within, peak_halves_cover, total_halves_cover};
+pub use cut::halves;
 pub use held::holds;
+pub use law::{
+    halves_are_boxes, halves_are_within, halves_keep_ends, halves_share_choices, peak_halves_cover,
+    splits_are_cuts, total_halves_cover,
+};
 pub use space::{Range, Space, Split};
 pub use splits::split_of;

@@ -1,10 +1,10 @@
-use Rattle.std.proofs.Common.{◌∙◌, sym, refl, arith, subst, ◌≤◌, length}
+use Rattle.std.proofs.Common.{◌∙◌, sym, arith, subst, ◌≤◌, length}
 use Rattle.d_box.specs.Boxes.{range_at}
 use Rattle.d_box.specs.Candidates.{in_range}
 use Rattle.d_box.specs.Splits.{HasNoTotal}
 use Rattle.d_box.specs.Steps.{IsFirstTotal}
 use Rattle.d_box.proofs.SplitFacts.{widest_is, found_two, split_found}
-use Rattle.std.proofs.Common.{rules, w64, Option, Some, None}
+use Rattle.std.proofs.Common.{rules, w64}
 use Rattle.std.proofs.lemmas.Int.{to_z-of_z}
 use Rattle.d_box.proofs.splits.split_of.Goals as goal
 

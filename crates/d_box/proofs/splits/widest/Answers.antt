@@ -1,4 +1,4 @@
-use Rattle.std.proofs.Common.{◌∙◌, ◌≡◌, sym, subst, ◌≤ℤ◌, arith}
+use Rattle.std.proofs.Common.{◌∙◌, ◌≡◌, sym, subst, ◌≤ℤ◌}
 use Rattle.d_box.specs.Splits.{gap_at}
 use Rattle.d_box.proofs.FoundFacts.{widest_same, widest_more, gap_here, gt_from, not_gt}
 use Rattle.d_box.proofs.splits.widest.Goals as goal

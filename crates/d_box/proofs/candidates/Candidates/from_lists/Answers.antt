@@ -1,4 +1,4 @@
-use Rattle.std.proofs.Common.{◌∙◌, sym, refl, arith, length}
+use Rattle.std.proofs.Common.{◌∙◌, arith}
 use Rattle.d_box.proofs.SplitFacts.{lists_more, all_rise}
 use Rattle.std.proofs.lemmas.List.{length-map}
 use Rattle.d_box.proofs.candidates.Candidates.from_lists.Goals as goal

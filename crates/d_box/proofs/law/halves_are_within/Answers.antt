@@ -1,5 +1,5 @@
 use Rattle.d_box.proofs.HalfFacts.{parts}
-use Rattle.d_box.proofs.cut.halves_are_within.Goals as goal
+use Rattle.d_box.proofs.law.halves_are_within.Goals as goal
 
 pub returns : goal.returns
 returns c = parts
