@@ -4,3 +4,4 @@ mod ListFacts
 mod FoundFacts
 mod SizeFacts
 mod SplitFacts
+mod TrialFacts

@@ -4,3 +4,4 @@ pub mod TierEnds
 pub mod Splits
 pub mod Halves
 pub mod Steps
+pub mod Trials

@@ -8,8 +8,10 @@ mod candidates;
 mod cut;
 mod held;
 mod law;
+mod slopes;
 mod space;
 mod splits;
+mod trials;
 
 pub use candidates::Candidates;
 pub use cut::halves;
@@ -18,5 +20,7 @@ pub use law::{
     halves_are_boxes, halves_are_within, halves_keep_ends, halves_share_choices, peak_halves_cover,
     splits_are_cuts, total_halves_cover,
 };
+pub use slopes::Slopes;
 pub use space::{Range, Space, Split};
 pub use splits::split_of;
+pub use trials::{trial, trial_count};
