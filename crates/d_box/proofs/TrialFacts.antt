@@ -1,16 +1,12 @@
 -- Which tier holds an amount, and the least and greatest of some prices.
-use Rattle.std.proofs.Common.{ℕ, suc, zero, ℤ, pos, ◌≤ℤ◌, ◌+ℤ◌, ◌-ℤ◌, ◌≡◌, ◌⊎◌, ◌<◌, ◌≤◌, ◌+◌, ◌-◌, ◌*◌, ◌^◌, ◌/◌, ◌%◌, ◌==◌, nat_lt, Option, slice_set, Bool, true, false, List, [], ◌∷◌, All, length, drop, slice_index_or, sym, subst, ap, refl, inl, inr, arith, ◌∙◌}
+use Rattle.std.proofs.Common.{ℕ, suc, zero, ℤ, pos, ◌≤ℤ◌, ◌+ℤ◌, ◌-ℤ◌, ◌≡◌, ◌⊎◌, ◌<◌, ◌≤◌, ◌+◌, ◌-◌, ◌*◌, ◌^◌, true, false, List, [], ◌∷◌, length, drop, slice_index_or, sym, subst, ap, refl, inl, inr, arith, ◌∙◌}
 use Rattle.std.specs.List.{Contains}
 use Rattle.std.specs.Int.{int_max, int_min}
 use Rattle.std.proofs.lemmas.Int.{ints, clamps, by_lt_z}
 use Rattle.std.proofs.lemmas.List.{get_or_default, get_or-map, length-map}
 use Rattle.d_tier.specs.declared.tier.Tier.{Tier}
 use Rattle.d_tier.specs.Tables.{open_tier, end_at, prices_of, IsTierTable, IsLowestPrice, IsHighestPrice}
-use Rattle.std.proofs.lemmas.Bool.{cases_eq}
 use Rattle.d_num.specs.Amount.{IsWithin, IsRate}
-use Rattle.d_box.specs.declared.space.Space.{Space}
-use Rattle.d_box.specs.declared.slopes.Slopes.{Slopes}
-use Rattle.d_box.specs.Splits.{tiers_at}
 use Rattle.d_box.specs.Trials.{HasEnergyPrices, ends_by, holding, least_of, greatest_of, spread_of, shifted, moved}
 
 later : (tiers : List Tier) (k : ℕ) (x : ℤ) → suc k < length tiers → ends_by (end_at tiers k) x ≡ true
@@ -115,7 +111,7 @@ pub price_within : (tiers : List Tier) (price : ℤ) → HasEnergyPrices tiers �
 price_within tiers price all one =
     let lt : one.0 < length tiers = subst (λ n. one.0 < n) (length-map tiers (λ (tier : Tier). tier.price)) one.1 in
     let here : slice_index_or (prices_of tiers) one.0 price ≡ (slice_index_or tiers one.0 (open_tier price)).price =
-      get_or-map (λ (tier : Tier). tier.price) tiers one.0 (open_tier price) price lt in
+    get_or-map (λ (tier : Tier). tier.price) tiers one.0 (open_tier price) price lt in
     subst (IsWithin (3 * 10 ^ 21)) (sym here ∙ one.2) (all one.0 (open_tier price) lt)
 
 -- the bounds of a slope are rates, the lower one first
@@ -178,3 +174,8 @@ moved_is tiers lowest highest spread least greatest target slope result step low
     is ∙ (ap (λ z. int_max z (int_min target greatest)) b
     ∙ (ap (λ z. int_max (least_of (prices_of tiers) -ℤ spread_of tiers) (int_min target z)) a
     ∙ ap (λ z. int_max (least_of (prices_of tiers) -ℤ spread_of tiers) (int_min z (greatest_of (prices_of tiers) +ℤ spread_of tiers))) (at ∙ ap (λ z. shifted z slope step) s)))
+
+-- the bounds in the order that was found
+pub in_order : (lowest highest spread least greatest : ℤ) → AreBounds lowest highest → spread ≡ highest -ℤ lowest → least ≡ lowest -ℤ spread
+    → greatest ≡ highest +ℤ spread → least ≤ℤ greatest
+in_order lowest highest spread least greatest b apart below above = let o = b.order in omega (arith, ints)
