@@ -1,7 +1,7 @@
-//! The candidates of each group.
+//! The candidates of each group: the powers that its highest demand may have.
 
-ghost use Rattle.std.specs.Prelude.{◌≡◌, ◌<◌, [], length, slice_index_or, ℤ};
-ghost use Rattle.std.specs.List.{Contains, All};
+ghost use Rattle.std.specs.Prelude.{◌≡◌, ◌<◌, length};
+ghost use Rattle.std.specs.List.{All};
 ghost use Rattle.d_box.specs.Candidates.{IsRising, AreCandidatesOf, HaveSameMembers, lists_of, list_at, next_above};
 
 use std::marker::Model;
@@ -25,7 +25,7 @@ impl Model for Candidates {
     ghost invariant = { λ a. All IsRising (map (λ r. r.items) a.lists.items) };
 }
 
-// Sorts a list and drops repeats.
+/// Sorts a list and drops repeats.
 fn rise(list: &mut Vec<i64>)
     ensures rises { IsRising list.new.items }
     ensures members { HaveSameMembers list.old.items list.new.items }
@@ -34,7 +34,7 @@ fn rise(list: &mut Vec<i64>)
     list.dedup();
 }
 
-// The first of these numbers above a power, or that power.
+/// The first of these numbers above a power, or that power.
 fn first_above(list: &[i64], power: &i64) -> i64
     ensures { result ≡ next_above list.now power.now }
 {
@@ -47,7 +47,7 @@ fn first_above(list: &[i64], power: &i64) -> i64
 }
 
 impl Candidates {
-    /// The candidates in these lists, each once.
+    /// The candidates in these lists, a list of powers in W for each group: each once, in rising order. The lists are sorted where they are.
     pub fn from_lists(lists: Vec<Vec<i64>>) -> Candidates
         ensures { AreCandidatesOf (lists_of lists.items) result }
     {
@@ -58,10 +58,17 @@ impl Candidates {
         Candidates { lists }
     }
 
-    /// A group's candidates in rising order.
+    /// For how many groups there are candidates.
+    pub fn count(&self) -> usize
+        ensures { result ≡ length self.now }
+    {
+        self.lists.len()
+    }
+
+    /// A group's candidates in W, in rising order.
     pub fn list(&self, group: u8) -> &[i64]
         requires { group < length self.now }
-        ensures list { result.now ≡ slice_index_or self.now group [] }
+        ensures list { result.now ≡ list_at self.now group }
         ensures rises { All IsRising self.now }
     {
         &self.lists[group as usize]

@@ -18,7 +18,7 @@ fn are_in(ranges: &[Range], numbers: &[i64]) -> bool
     true
 }
 
-/// Whether each peak and each total is in its range.
+/// Whether the box holds these peaks in W and these totals in Wh: each is in its range.
 pub fn holds(space: &Space, peaks: &[i64], totals: &[i64]) -> bool
     requires peaks { length peaks.now ≤ 37 }
     requires totals { length totals.now ≤ 36 }

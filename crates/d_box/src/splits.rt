@@ -1,11 +1,11 @@
 //! Where a box is split.
 
 ghost use Rattle.std.specs.Prelude.{◌≡◌, ◌≤◌, ◌<◌, ◌+◌, ◌*◌, ◌^◌, length};
-ghost use Rattle.std.specs.List.{Contains, All};
+ghost use Rattle.std.specs.List.{All};
 ghost use Rattle.d_tier.specs.Charges.{peak_charge};
 ghost use Rattle.d_num.specs.Amount.{IsWithin, IsWatt};
-ghost use Rattle.d_box.specs.Boxes.{IsIn, IsBox, range_at, number_at, IsPeakCut};
-ghost use Rattle.d_box.specs.Candidates.{AreEnds, IsRising, is_in, in_range};
+ghost use Rattle.d_box.specs.Boxes.{number_at};
+ghost use Rattle.d_box.specs.Candidates.{AreEnds, is_in, in_range};
 ghost use Rattle.d_box.specs.TierEnds.{IsInnerEnd};
 ghost use Rattle.d_box.specs.Splits.{IsSplitOf, middle, peak_gap, HasDemandPrices};
 ghost use Rattle.d_box.specs.Steps.{IsFirstTotal, IsWidest, IsLowered, ArePowers};
@@ -139,7 +139,9 @@ fn pick(list: &[i64], range: &Range, place: usize) -> i64
     0
 }
 
-/// Where a box is split, or None for a point.
+/// Where a box is split, or None for a point, which isn't split any more. The first total whose range has the end of a tier strictly inside is
+/// split at the lowest such end; `energy` has the tables of the tiered periods. Else the group whose demand charge differs most between the
+/// ends of its range is split, the first of equals, at the candidate in the middle of its range. Our own rule.
 pub fn split_of(
     space: &Space,
     energy: &[Tiers],
