@@ -32,10 +32,11 @@ pub record Holds (space : Space) (peaks totals : List ℤ) : Type 0 where
   pub peaks_in : AreIn space.peaks peaks
   pub totals_in : AreIn space.totals totals
 
--- the ranges with that at this place ended, or begun, at x
+-- the ranges, of which that at this place ends at x
 abbrev pub ended : List Range → ℕ → ℤ → List Range
 ended ranges k x = slice_set ranges k (record { low = (range_at ranges k).low; high = x })
 
+-- the ranges, of which that at this place begins at x
 abbrev pub begun : List Range → ℕ → ℤ → List Range
 begun ranges k x = slice_set ranges k (record { low = x; high = (range_at ranges k).high })
 

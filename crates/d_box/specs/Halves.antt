@@ -21,10 +21,11 @@ abbrev pub above_of : List (List ℤ) → Split → ℤ
 above_of candidates (Total index at) = at
 above_of candidates (Peak group at) = next_above (list_at candidates group) at
 
--- the halves of a split
+-- the left half of a box at a split
 abbrev pub left_of : Space → Split → Space
 left_of space split = left_half space split (below_of split)
 
+-- the right half of a box at a split
 abbrev pub right_of : List (List ℤ) → Space → Split → Space
 right_of candidates space split = right_half space split (above_of candidates split)
 

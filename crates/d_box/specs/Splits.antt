@@ -35,6 +35,7 @@ pub record IsFirstInner (space : Space) (energy : List (List Tier)) (n index : �
   pub lowest : IsLowestInner (tiers_at energy index) (range_at space.totals index).low (range_at space.totals index).high (length (tiers_at energy index)) at
   pub first : HasNoTotal space energy index
 
+-- a group that charges nothing, which stands for one that isn't there
 abbrev pub no_peak : Group
 no_peak = record { tiers = []; floor = pos 0 }
 
@@ -62,7 +63,7 @@ pub record IsMiddleCut (candidates : List ℤ) (range : Range) (at : ℤ) : Type
   pub middle : at ≡ number_at (in_range range candidates) (middle (length (in_range range candidates)))
   pub cut : IsPeakCut candidates range at (next_above candidates at)
 
--- no end of a tier lies strictly inside a total's range
+-- a peak is split: no end of a tier lies strictly inside a total's range, and this group's charge differs most between the ends of its range
 pub record IsPeakSplit (space : Space) (energy : List (List Tier)) (groups : List Group) (candidates : List (List ℤ)) (group : ℕ) (at : ℤ) : Type 0 where
   pub no_total : HasNoTotal space energy (length energy)
   pub widest : IsWidestGroup space groups (length groups) group
@@ -73,6 +74,7 @@ pub record IsPoint (space : Space) (energy : List (List Tier)) (groups : List Gr
   pub no_total : HasNoTotal space energy (length energy)
   pub no_gap : HasNoGap space groups (length groups)
 
+-- None is the split of a point alone; a total is split at the first end of a tier inside, and a peak only where no total is
 abbrev pub IsSplitOf : Space → List (List Tier) → List Group → List (List ℤ) → Option Split → Type 0
 IsSplitOf space energy groups candidates None = IsPoint space energy groups
 IsSplitOf space energy groups candidates (Some (Total index at)) = IsFirstInner space energy (length energy) index at

@@ -12,11 +12,13 @@ use Rattle.d_num.specs.Amount.{IsWatt}
 use Rattle.d_tier.specs.declared.tier.Tier.{Tier}
 use Rattle.d_tier.specs.declared.peak.Peak.{Peak as Group}
 
+-- the first of the first n totals with such an end is found, or there is none
 abbrev pub IsFirstTotal : Space → List (List Tier) → ℕ → Option Split → Type 0
 IsFirstTotal space energy n None = HasNoTotal space energy n
 IsFirstTotal space energy n (Some (Total index at)) = IsFirstInner space energy n index at
 IsFirstTotal space energy n (Some (Peak group at)) = ⊥
 
+-- the widest of the first n groups is found, or there is none
 abbrev pub IsWidest : Space → List Group → ℕ → Option ℕ → Type 0
 IsWidest space groups n None = HasNoGap space groups n
 IsWidest space groups n (Some group) = IsWidestGroup space groups n group

@@ -16,6 +16,7 @@ pub record IsLowestInner (tiers : List Tier) (low high : ℤ) (n : ℕ) (at : �
   pub below : at <ℤ high
   pub lowest : HasNoInner tiers low at n
 
+-- the lowest such end is found, or there is none
 abbrev pub IsInnerEnd : List Tier → ℤ → ℤ → ℕ → Option ℤ → Type 0
 IsInnerEnd tiers low high n None = HasNoInner tiers low high n
 IsInnerEnd tiers low high n (Some at) = IsLowestInner tiers low high n at
