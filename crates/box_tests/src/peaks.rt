@@ -62,7 +62,7 @@ fn is_ready(space: &Space, candidates: &Candidates) -> bool
 fn candidates_rise_and_are_there_once(rt: HostRuntime) -> Result<(), NoMemory> {
     let candidates = candidates(rt.alloc())?;
     assert_eq!(rt; candidates.count(), 1);
-    assert!(rt; *candidates.list(0) == [0, 1000, 2000, 4000, 5000, 6000]);
+    assert!(rt; candidates.list(0) == [0, 1000, 2000, 4000, 5000, 6000].as_slice());
     assert_eq!(rt; candidates.next_above(0, 2000), 4000);
     assert_eq!(rt; candidates.next_above(0, 6000), 6000);
     Ok(())
@@ -72,14 +72,25 @@ fn candidates_rise_and_are_there_once(rt: HostRuntime) -> Result<(), NoMemory> {
 fn splits_a_peak_in_the_middle_of_its_candidates(rt: HostRuntime) -> Result<(), NoMemory> {
     let candidates = candidates(rt.alloc())?;
     assert_eq!(rt; candidates.count(), 1);
-    for (low, high, at, above) in [(0, 6000, 2000, 4000), (4000, 6000, 5000, 6000), (0, 2000, 1000, 2000)] {
+    for (low, high, at, above) in [
+        (0, 6000, 2000, 4000),
+        (4000, 6000, 5000, 6000),
+        (0, 2000, 1000, 2000),
+    ] {
         let whole = space(low, high);
         assert!(rt; is_ready(&whole, &candidates));
         let split = split_of(&whole, &[], &groups(), &candidates);
         assert_eq!(rt; split, Some(Split::Peak { group: 0, at }));
         let mut left = whole;
         let mut right = whole;
-        halves(&whole, Split::Peak { group: 0, at }, at, candidates.next_above(0, at), &mut left, &mut right);
+        halves(
+            &whole,
+            Split::Peak { group: 0, at },
+            at,
+            candidates.next_above(0, at),
+            &mut left,
+            &mut right,
+        );
         assert_eq!(rt; left.peaks[0], Range { low, high: at });
         assert_eq!(rt; right.peaks[0], Range { low: above, high });
         assert!(rt; holds(&left, &[at], &[]) && !holds(&right, &[at], &[]));

@@ -27,12 +27,16 @@ tiers_at energy k = slice_index_or energy k []
 
 -- none of the first n totals has a tier end strictly inside its range
 abbrev pub HasNoTotal : Space → List (List Tier) → ℕ → Type 0
-HasNoTotal space energy n = (k : ℕ) → k < n → HasNoInner (tiers_at energy k) (range_at space.totals k).low (range_at space.totals k).high (length (tiers_at energy k))
+HasNoTotal space energy n =
+    (k : ℕ) → k < n
+    → HasNoInner (tiers_at energy k) (range_at space.totals k).low (range_at space.totals k).high (length (tiers_at energy k))
 
 -- this is the first total with such an end, and its lowest
 pub record IsFirstInner (space : Space) (energy : List (List Tier)) (n index : ℕ) (at : ℤ) : Type 0 where
   pub inside : index < n
-  pub lowest : IsLowestInner (tiers_at energy index) (range_at space.totals index).low (range_at space.totals index).high (length (tiers_at energy index)) at
+  pub lowest :
+      IsLowestInner (tiers_at energy index) (range_at space.totals index).low (range_at space.totals index).high
+      (length (tiers_at energy index)) at
   pub first : HasNoTotal space energy index
 
 -- a group that charges nothing, which stands for one that isn't there
@@ -64,7 +68,8 @@ pub record IsMiddleCut (candidates : List ℤ) (range : Range) (at : ℤ) : Type
   pub cut : IsPeakCut candidates range at (next_above candidates at)
 
 -- a peak is split: no end of a tier lies strictly inside a total's range, and this group's charge differs most between the ends of its range
-pub record IsPeakSplit (space : Space) (energy : List (List Tier)) (groups : List Group) (candidates : List (List ℤ)) (group : ℕ) (at : ℤ) : Type 0 where
+pub record IsPeakSplit (space : Space) (energy : List (List Tier)) (groups : List Group) (candidates : List (List ℤ)) (group : ℕ) (at : ℤ)
+    : Type 0 where
   pub no_total : HasNoTotal space energy (length energy)
   pub widest : IsWidestGroup space groups (length groups) group
   pub cut : IsMiddleCut (list_at candidates group) (range_at space.peaks group) at
