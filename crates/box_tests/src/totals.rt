@@ -1,6 +1,7 @@
 //! A tiered period whose price is 0.10 USD per kWh up to 300 kWh, 0.20 up to 600 kWh and 0.05 above.
 
-ghost use Rattle.std.specs.Prelude.{IsTrue};
+ghost use Rattle.std.specs.Prelude.{IsTrue, ◌↔◌, ◌*◌, ◌^◌};
+ghost use Rattle.d_num.specs.Amount.{IsWithin};
 ghost use Rattle.d_box.specs.Trials.{HasEnergyPrices};
 
 use d_box::{Candidates, Range, Slopes, Space, Split, halves, holds, split_of, trial, trial_count};
@@ -28,12 +29,17 @@ fn rate(rt: &impl Abort, units: i128) -> Rate {
 
 /// The tiers of the period.
 fn period(rt: &impl Abort) -> Tiers {
-    let mut tiers = Tiers::one(rate(rt, 10 * CENT));
+    table(rt, 10 * CENT, &[(300_000, 20 * CENT), (600_000, 5 * CENT)])
+}
+
+/// The table of a first price and of further ends and prices.
+fn table(rt: &impl Abort, first: i128, rest: &[(i64, i128)]) -> Tiers {
+    let mut tiers = Tiers::one(rate(rt, first));
     let mut last = 0;
-    for (end, price) in [(300_000, 20), (600_000, 5)] {
-        assert!(rt; tiers.count() < 16 && last < end && end <= 10_000_000_000_000);
-        tiers.add(end, rate(rt, price * CENT));
-        last = end;
+    for (end, price) in rest {
+        assert!(rt; tiers.count() < 16 && last < *end && *end <= 10_000_000_000_000);
+        tiers.add(*end, rate(rt, *price));
+        last = *end;
     }
     tiers
 }
@@ -42,8 +48,17 @@ fn period(rt: &impl Abort) -> Tiers {
 fn has_prices(tiers: &Tiers) -> bool
     ensures { IsTrue result → HasEnergyPrices tiers.now }
 {
-    let limit = 3_000_000_000_000_000_000_000;
-    -limit <= tiers.lowest_price().units() && tiers.highest_price().units() <= limit
+    let lowest = tiers.lowest_price();
+    let highest = tiers.highest_price();
+    is_small(lowest) && is_small(highest)
+}
+
+/// Whether a price is at most 3000 USD in size.
+fn is_small(price: Rate) -> bool
+    ensures { IsTrue result ↔ IsWithin (3 * 10 ^ 21) price }
+{
+    let units = price.units();
+    -3_000_000_000_000_000_000_000 <= units && units <= 3_000_000_000_000_000_000_000
 }
 
 #[test]
