@@ -63,6 +63,7 @@ fn candidates_rise_and_are_there_once(rt: HostRuntime) -> Result<(), NoMemory> {
     let candidates = candidates(rt.alloc())?;
     assert_eq!(rt; candidates.count(), 1);
     assert!(rt; candidates.list(0) == [0, 1000, 2000, 4000, 5000, 6000].as_slice());
+    assert_eq!(rt; candidates.range(0), Range { low: 0, high: 6000 });
     assert_eq!(rt; candidates.next_above(0, 2000), 4000);
     assert_eq!(rt; candidates.next_above(0, 6000), 6000);
     Ok(())

@@ -1,5 +1,5 @@
 -- Rising lists of candidates, and what a range has of them.
-use Rattle.std.proofs.Common.{Less, ℕ, ℤ, suc, zero, pos, Bool, true, false, cond, ◌≤ℤ◌, ◌<ℤ◌, ◌≡◌, ◌≢◌, ◌⊎◌, ◌<◌, ◌≤◌, ◌+◌, int_lt, Some, List, [], ◌∷◌, length, drop, sym, subst, ap, refl, inl, inr, arith, ◌∙◌}
+use Rattle.std.proofs.Common.{Less, ℕ, ℤ, suc, zero, pos, Bool, true, false, cond, ◌≤ℤ◌, ◌<ℤ◌, ◌≡◌, ◌≢◌, ◌⊎◌, ◌<◌, ◌≤◌, ◌+◌, ◌-◌, int_lt, Some, List, All, [], ◌∷◌, length, drop, sym, subst, ap, refl, inl, inr, arith, ◌∙◌}
 use Rattle.std.specs.List.{Contains, filter, find, dedup}
 use Rattle.std.specs.List.Sorted.{IsStrictlySortedBy, IsSorted, IsPermutation}
 use Rattle.std.specs.Ordering.{int_cmp, int_eq, MatchOrdering}
@@ -11,9 +11,10 @@ use Rattle.std.proofs.lemmas.List.Elements.{All-from_recursion, filter_passes, A
 use Rattle.std.proofs.lemmas.List.Kept.{AllPairs-cons, AllPairs-filter, IsStrictlySortedBy-dedup, Contains-dedup, Contains-from_dedup}
 use Rattle.std.proofs.lemmas.List.Sorted.{Contains-permutation, IsPermutation-sym}
 use Rattle.std.proofs.lemmas.Map.Made.{Contains-tail}
+use Rattle.d_num.specs.Amount.{IsWatt}
 use Rattle.d_box.specs.declared.space.Range.{Range}
 use Rattle.d_box.specs.Boxes.{number_at, IsPeakCut}
-use Rattle.d_box.specs.Candidates.{IsRising, HaveSameMembers, is_in, in_range, next_above, IsRangeOf}
+use Rattle.d_box.specs.Candidates.{IsRising, HaveSameMembers, is_in, in_range, next_above, range_of, RangesHaveCandidates, IsRangeOf}
 use Rattle.d_box.specs.Splits.{middle}
 
 below_from : (x y : ℤ) → int_cmp x y ≡ Less → x <ℤ y
@@ -171,3 +172,37 @@ two xs r range apart = elim range.ends [
 
 pub middle_inside : (count : ℕ) → 2 ≤ count → middle count + 1 < count
 middle_inside count h = omega arith
+
+same_z : (x : ℤ) → x ≤ℤ x
+same_z x = omega (arith, ints)
+
+-- an earlier number of a rising list isn't above a later one
+not_above : (xs : List ℤ) (i j : ℕ) → IsRising xs → i ≤ j → j < length xs → number_at xs i ≤ℤ number_at xs j
+not_above xs i j rising le lt = elim (cases_eq i j) [
+  | inl e ↦ subst (λ n. number_at xs i ≤ℤ number_at xs n) e (same_z _)
+  | inr ne ↦ let h = rising i j (pos 0) (omega arith) lt in omega (arith, ints)
+]
+
+pub range_has : RangesHaveCandidates
+range_has list rising powers = record {
+  each = λ x h.
+      let t = there list x h in
+      let lt = t.1 in
+      record {
+        low = subst (λ z. number_at list 0 ≤ℤ z) t.2 (not_above list 0 t.0 rising (omega arith) t.1);
+        high = subst (λ z. z ≤ℤ number_at list (length list - 1)) t.2 (not_above list t.0 (length list - 1) rising (omega arith) (omega arith));
+      };
+  ends = whole list rising powers;
+}
+  where
+    whole : (xs : List ℤ) → IsRising xs → All IsWatt xs → IsRangeOf xs (range_of xs)
+    whole [] rise all = record { floor = same_z _; order = same_z _; limit = omega (arith, ints); ends = inr refl }
+    whole (x ∷ xs) rise all =
+        let first = all 0 (pos 0) (omega arith) in
+        let last = all (length (x ∷ xs) - 1) (pos 0) (omega arith) in
+        record {
+          floor = first.0;
+          order = not_above (x ∷ xs) 0 (length (x ∷ xs) - 1) rise (omega arith) (omega arith);
+          limit = last.1;
+          ends = inl (Contains-get_or (x ∷ xs) 0 (pos 0) (omega arith), Contains-get_or (x ∷ xs) (length (x ∷ xs) - 1) (pos 0) (omega arith));
+        }

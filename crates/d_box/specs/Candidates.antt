@@ -1,8 +1,9 @@
 -- The candidates of each group: the powers that its highest demand may have. All of it is our own rule.
-use Rattle.std.specs.Prelude.{ℕ, ℤ, pos, ◌≤ℤ◌, ◌<ℤ◌, ◌≡◌, ◌⊎◌, ◌<◌, ◌^◌, Bool, List, [], length, map, slice_index_or, int_le, int_lt, unwrap_or, ◌&&◌, Vec}
-use Rattle.std.specs.List.{Contains, AllPairs, filter, find}
+use Rattle.std.specs.Prelude.{ℕ, ℤ, pos, ◌≤ℤ◌, ◌<ℤ◌, ◌≡◌, ◌⊎◌, ◌<◌, ◌-◌, ◌^◌, Bool, List, [], length, map, slice_index_or, int_le, int_lt, unwrap_or, ◌&&◌, Vec}
+use Rattle.std.specs.List.{Contains, All, AllPairs, filter, find}
+use Rattle.d_num.specs.Amount.{IsWatt}
 use Rattle.std.specs.declared.alloc.Global.{Global}
-use Rattle.d_box.specs.Boxes.{range_at}
+use Rattle.d_box.specs.Boxes.{IsIn, range_at, number_at}
 use Rattle.d_box.specs.declared.space.Range.{Range}
 use Rattle.d_box.specs.declared.space.Space.{Space}
 
@@ -35,6 +36,10 @@ is_in range c = int_le range.low c && int_le c range.high
 abbrev pub in_range : Range → List ℤ → List ℤ
 in_range range numbers = filter (is_in range) numbers
 
+-- the range from the first to the last of some numbers; 0 to 0 where there are none
+abbrev pub range_of : List ℤ → Range
+range_of list = record { low = number_at list 0; high = number_at list (length list - 1) }
+
 -- the first candidate above a power; that power itself where none is
 abbrev pub next_above : List ℤ → ℤ → ℤ
 next_above candidates at = unwrap_or (find (int_lt at) candidates) at
@@ -49,3 +54,12 @@ pub record IsRangeOf (candidates : List ℤ) (range : Range) : Type 0 where
 -- the ranges of all groups' peaks are such ranges
 abbrev pub AreEnds : Space → List (List ℤ) → Type 0
 AreEnds space candidates = (group : ℕ) → group < length candidates → IsRangeOf (list_at candidates group) (range_at space.peaks group)
+
+-- the range from the least to the greatest candidate of a group has each of them
+pub record RangeHas (list : List ℤ) : Type 0 where
+  pub each : (x : ℤ) → Contains list x → IsIn (range_of list) x
+  pub ends : IsRangeOf list (range_of list)
+
+-- so it is for all candidates that are powers
+abbrev pub RangesHaveCandidates : Type 0
+RangesHaveCandidates = (list : List ℤ) → IsRising list → All IsWatt list → RangeHas list

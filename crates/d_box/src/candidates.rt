@@ -2,8 +2,9 @@
 
 ghost use Rattle.std.specs.Prelude.{◌≡◌, ◌<◌, length};
 ghost use Rattle.std.specs.List.{All};
-ghost use Rattle.d_box.specs.Candidates.{IsRising, AreCandidatesOf, HaveSameMembers, lists_of, list_at, next_above};
+ghost use Rattle.d_box.specs.Candidates.{IsRising, AreCandidatesOf, HaveSameMembers, lists_of, list_at, range_of, next_above};
 
+use crate::space::Range;
 use std::marker::Model;
 
 /// For each group its candidates, each once, in rising order. A contract sees it as the list of these lists.
@@ -72,6 +73,21 @@ impl Candidates {
         ensures rises { All IsRising self.now }
     {
         &self.lists[group as usize]
+    }
+
+    /// The range from a group's least to its greatest candidate; 0 to 0 where it has none.
+    pub fn range(&self, group: u8) -> Range
+        requires { group < length self.now }
+        ensures { result ≡ range_of (list_at self.now group) }
+    {
+        let list = self.list(group);
+        if list.is_empty() {
+            return Range { low: 0, high: 0 };
+        }
+        Range {
+            low: list[0],
+            high: list[list.len() - 1],
+        }
     }
 
     /// The first candidate of a group above a power, or that power where none is above it.

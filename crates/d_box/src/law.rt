@@ -1,6 +1,12 @@
 //! What holds of all boxes and their halves.
 
+ghost use Rattle.d_box.specs.Candidates.{RangesHaveCandidates};
 ghost use Rattle.d_box.specs.Halves.{SplitsAreCuts, IsPeakCover, IsTotalCover, AreWithin, AreBoxes, AreHalvesEnds, AreShared};
+
+/// The range from the least to the greatest candidate of a group has each of them, and goes from a candidate to a candidate.
+pub fn ranges_have_candidates()
+    ensures { RangesHaveCandidates }
+{}
 
 /// The split of a box is a place where the box may be split.
 pub fn splits_are_cuts()
