@@ -3,3 +3,4 @@ mod TableFacts
 pub mod TableGrows
 mod ChargeFacts
 pub mod JoinFacts
+mod RiseFacts

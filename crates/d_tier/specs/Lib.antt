@@ -1,3 +1,4 @@
 pub mod Tables
 pub mod Charges
 pub mod Joined
+pub mod Rising

@@ -9,7 +9,7 @@ mod peak;
 mod tier;
 mod tiers;
 
-pub use law::joining_keeps_charges;
+pub use law::{charges_rise, joining_keeps_charges};
 pub use peak::Peak;
 pub use tier::Tier;
 pub use tiers::Tiers;
