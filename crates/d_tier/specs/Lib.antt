@@ -1,3 +1,6 @@
 pub mod Tables
+pub mod TierEnds
 pub mod Charges
+pub mod Gaps
 pub mod Joined
+pub mod Steps
