@@ -1,6 +1,9 @@
 mod PriceFacts
 mod TableFacts
 pub mod TableGrows
+mod EndFacts
 mod ChargeFacts
+pub mod LeastFacts
+mod GapFacts
 pub mod JoinFacts
 mod RiseFacts

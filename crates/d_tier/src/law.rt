@@ -1,5 +1,6 @@
 //! What holds of all tables.
 
+ghost use Rattle.d_tier.specs.Gaps.{LeastGapIsLeast};
 ghost use Rattle.d_tier.specs.Joined.{JoiningKeepsCharges};
 ghost use Rattle.d_tier.specs.Rising.{ChargesRise};
 
@@ -11,4 +12,9 @@ pub fn joining_keeps_charges()
 /// Where no price is below 0, a higher demand is charged as much as a lower one or more.
 pub fn charges_rise()
     ensures { ChargesRise }
+{}
+
+/// An amount of the range has the least gap, and none of the range has a lower one.
+pub fn least_gap_is_least()
+    ensures { LeastGapIsLeast }
 {}

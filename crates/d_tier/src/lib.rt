@@ -4,12 +4,14 @@
 //! nothing here takes memory.
 #![tactic(auto)]
 
+mod charges;
+mod ends;
 mod law;
 mod peak;
 mod tier;
 mod tiers;
 
-pub use law::{charges_rise, joining_keeps_charges};
+pub use law::{charges_rise, joining_keeps_charges, least_gap_is_least};
 pub use peak::Peak;
 pub use tier::Tier;
 pub use tiers::Tiers;

@@ -2,9 +2,11 @@
 
 ghost use Rattle.std.specs.Prelude.{◌≡◌, ◌↔◌, ℕ, ◌+◌, ◌*◌, ◌^◌, ◌<◌, ◌≤◌, [], ◌∷◌, length, pos, ◌<ℤ◌, ◌≤ℤ◌, IsNone, IfSome, All};
 ghost use Rattle.d_num.specs.Amount.{IsUpTo, IsWithin};
-ghost use Rattle.d_tier.specs.Charges.{part_end, tier_charge, has_price};
-ghost use Rattle.d_tier.specs.Tables.{AreTiersFrom, IsTierTable, IsTierEnd, IsLowestPrice, IsHighestPrice, open_tier, with_tier, last_end, price_at, end_at};
+ghost use Rattle.d_tier.specs.Charges.{tier_charge, has_price};
+ghost use Rattle.d_tier.specs.Gaps.{least_gap};
+ghost use Rattle.d_tier.specs.Tables.{IsTierTable, IsTierEnd, IsLowestPrice, IsHighestPrice, open_tier, with_tier, last_end, price_at, end_at};
 
+use crate::charges::{charge_of, least_gap_of};
 use crate::tier::Tier;
 use d_num::{Money, Rate};
 use std::marker::Model;
@@ -121,6 +123,19 @@ impl Tiers {
         charge_of(&self.tiers[..self.count], amount)
     }
 
+    /// The least of what the charge of an amount is more than a slope's price for it, over the whole amounts from `low` to `high`. Both are
+    /// in Wh or W, from 0 to 2 * 10^13. It works out a charge for each end of a tier inside the range and for both ends of it.
+    pub fn least_gap(&self, low: i64, high: i64, slope: Rate) -> Money
+        requires low { pos 0 ≤ℤ low }
+        requires order { low ≤ℤ high }
+        requires high { high ≤ℤ pos (2 * 10 ^ 13) }
+        ensures value { result ≡ least_gap self.now low high slope }
+        ensures size { (m k n : ℕ) → All (λ tier. IsWithin m tier.price) self.now → IsWithin k slope → IsUpTo n high
+            → IsWithin ((m + k) * n) result }
+    {
+        least_gap_of(&self.tiers[..self.count], low, high, slope)
+    }
+
     /// The same table once more.
     pub fn copied(&self) -> Tiers
         ensures value { result ≡ self.now }
@@ -164,36 +179,4 @@ fn highest_of(tiers: &[Tier]) -> Rate
         }
     }
     highest
-}
-
-/// What an amount is charged by some tiers: it stops at the tier that holds the amount's end.
-fn charge_of(tiers: &[Tier], amount: i64) -> Money
-    requires tiers { AreTiersFrom (pos 0) tiers.now }
-    requires amount { IsUpTo (2 * 10 ^ 13) amount }
-    ensures value { result ≡ tier_charge tiers.now amount }
-    ensures range { IsWithin (2 * 10 ^ 35) result }
-{
-    let mut begin = 0;
-    let mut charge = Money::new(0).unwrap();
-    for tier in tiers {
-        // shows the price's range
-        let _units = tier.price.units();
-        let end = end_of_part(tier.end, amount);
-        charge = charge.plus(tier.price.times(end - begin));
-        if end == amount {
-            return charge;
-        }
-        begin = end;
-    }
-    unreachable!()
-}
-
-/// Where the part of an amount that lies below a tier's end ends.
-fn end_of_part(end: Option<i64>, amount: i64) -> i64
-    ensures { result ≡ part_end end amount }
-{
-    match end {
-        Some(end) => end.min(amount),
-        None => amount,
-    }
 }

@@ -40,6 +40,30 @@ fn each_tier_charges_its_part_of_an_amount(rt: HostRuntime) {
 }
 
 #[test]
+fn the_least_gap_is_at_an_end_of_the_range_or_of_a_tier(rt: HostRuntime) {
+    let cent = 10_000_000_000_000_000;
+    let tiers = table(&rt, 10 * cent, &[(500_000, 20 * cent)]);
+    let cents = [(5, 1_500_000), (15, -2_500_000), (25, -8_500_000)];
+    for (slope, want) in cents {
+        assert_eq!(rt;
+            tiers
+                .least_gap(300_000, 700_000, rate(&rt, slope * cent))
+                .units(),
+            want * cent,
+            "at a slope of {slope} cents"
+        );
+    }
+}
+
+#[test]
+fn a_tier_holds_amounts_below_its_end(rt: HostRuntime) {
+    let tiers = table(&rt, 10, &[(500_000, 20)]);
+    assert_eq!(rt; (tiers.holding(499_999), tiers.holding(500_000)), (0, 1));
+    assert_eq!(rt; tiers.inner_end(300_000, 700_000), Some(500_000));
+    assert_eq!(rt; tiers.inner_end(500_000, 700_000), None);
+}
+
+#[test]
 fn a_peak_is_charged_from_its_floor_on(rt: HostRuntime) {
     let peak = Peak {
         tiers: table(&rt, 3, &[(2_000, 5)]),

@@ -3,8 +3,8 @@ use Rattle.std.proofs.lemmas.Int.{ints, to_z-of_z}
 use Rattle.d_num.specs.Amount.{IsWithin, IsUpTo}
 use Rattle.d_tier.specs.Charges.{part_end, tier_charge}
 use Rattle.d_tier.proofs.ChargeFacts.{IsChargedTo, charged_more, charged_whole, charged_part, charged_within, charged_money, IsNextPart, next_part}
-use Rattle.d_tier.proofs.tiers.charge_of.Goals as goal
-use Rattle.d_tier.proofs.tiers.charge_of.Goals.{After-end_of_part-end, After-times, After-plus-charge}
+use Rattle.d_tier.proofs.charges.charge_of.Goals as goal
+use Rattle.d_tier.proofs.charges.charge_of.Goals.{After-end_of_part-end, After-times, After-plus-charge}
 
 -- the facts of the next part
 part : (c : After-end_of_part-end) → IsNextPart (to_z w64 (of_z w64 c.args.amount)) (to_z w64 c.loop-tier.begin-bits) c.end_of_part-end.result
