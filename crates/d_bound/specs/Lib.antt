@@ -1,2 +1,7 @@
 pub mod PlanWays
+pub mod Choice
+pub mod Caps
+pub mod Roots
+pub mod Nodes
+pub mod BoxLaws
 pub mod Law

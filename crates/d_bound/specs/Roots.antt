@@ -1,10 +1,10 @@
 -- The powers that a group's highest demand may have, and the box that holds every feasible schedule. All of it is our own rule.
-use Rattle.std.specs.Prelude.{ℕ, ℤ, pos, ◌≤ℤ◌, ◌≡◌, ◌<◌, ◌==◌, Bool, true, List, Option, Some, None, length, map, slice_get, if◌then◌else◌}
+use Rattle.std.specs.Prelude.{ℕ, ℤ, pos, ◌≤ℤ◌, ◌≡◌, ◌⊎◌, ◌<◌, ◌==◌, Bool, true, List, Option, Some, None, length, map, slice_get, if◌then◌else◌}
 use Rattle.std.specs.List.{range_with_len, All, Contains}
 use Rattle.d_num.specs.Sums.{sum_of_first, greatest_of_first}
 use Rattle.d_box.specs.declared.space.Range.{Range}
 use Rattle.d_box.specs.declared.space.Space.{Space}
-use Rattle.d_box.specs.Boxes.{nothing, Holds, IsBox}
+use Rattle.d_box.specs.Boxes.{nothing, range_at, Holds, IsBox}
 use Rattle.d_box.specs.Candidates.{IsRising, AreEnds, list_at, range_of}
 use Rattle.d_bill.specs.declared.arc.Arc.{Arc}
 use Rattle.d_bill.specs.Inputs.{Inputs, period_in, is_in_group}
@@ -67,7 +67,12 @@ tiered_totals i s = map (import_to i (flow_at i s) (length i.net)) (tiered i)
 abbrev pub HoldsSchedule : Inputs → Space → List ℕ → Type 0
 HoldsSchedule i space s = Holds space (peaks_of i s) (tiered_totals i s)
 
--- a box whose ranges of peaks go from candidate to candidate, as those of the root and of all halves do
+-- a range from a candidate to a candidate, or 0 to 0
+abbrev pub IsDrawnRange : List ℤ → Range → Type 0
+IsDrawnRange list range = (Contains list range.low × Contains list range.high) ⊎ ((range.low ≡ pos 0) × (range.high ≡ pos 0))
+
+-- a box whose ranges of peaks go from candidate to candidate, as those of the root and of all halves do; they are powers up to 10^13 W
 pub record IsProblemBox (lists : List (List ℤ)) (space : Space) : Type 0 where
   pub box : IsBox space
   pub ends : AreEnds space lists
+  pub drawn : (group : ℕ) → group < length lists → IsDrawnRange (list_at lists group) (range_at space.peaks group)

@@ -4,7 +4,7 @@ ghost use Rattle.std.specs.Prelude.{◌≡◌, ℤ, ◌*ℤ◌, ◌*◌, ◌^◌
 ghost use Rattle.d_num.specs.Amount.{IsWithin};
 ghost use Rattle.d_bill.specs.Slopes.{rates_of};
 ghost use Rattle.d_path.specs.Arcs.{arcs_of, intervals_of, IsSound};
-ghost use Rattle.d_bound.specs.PlanWays.{mode_cost, mode_costs, move_of, plan_arcs, AreRates, IsFoundWay, IsFoundLeast};
+ghost use Rattle.d_bound.specs.PlanWays.{all_powers, mode_cost, mode_costs, move_of, plan_arcs, AreRates, IsFoundWay, IsFoundLeast};
 
 use crate::rates::prices_of;
 use d_batt::Mode;
@@ -46,7 +46,7 @@ fn first_way(alloc: Global, ways: &Ways, intervals: u32) -> Result<Option<Vec<u8
 /// The ways of a problem, where its modes cost this much and move the level like this.
 fn ways_of<'a>(problem: &Problem, costs: &'a [Pot], moves: &'a [Move]) -> Ways<'a>
     requires moves { moves.now ≡ map move_of problem.now.storage.modes }
-    ensures ways { (rates : List ℤ) → costs.now ≡ mode_costs problem.now rates → arcs_of result ≡ plan_arcs problem.now rates }
+    ensures ways { (rates : List ℤ) → costs.now ≡ mode_costs problem.now all_powers rates → arcs_of result ≡ plan_arcs problem.now all_powers rates }
     ensures start { result.start ≡ problem.now.storage.start }
 {
     let battery = problem.battery();
@@ -63,7 +63,7 @@ fn ways_of<'a>(problem: &Problem, costs: &'a [Pot], moves: &'a [Move]) -> Ways<'
 /// What each mode costs in each interval, interval by interval.
 fn costs_of(alloc: Global, problem: &Problem, rates: &[Rate]) -> Result<Vec<Pot>, NoMemory>
     requires { length rates.now ≡ 36 }
-    ensures { IfOk result (λ costs. costs.items ≡ mode_costs problem.now rates.now) }
+    ensures { IfOk result (λ costs. costs.items ≡ mode_costs problem.now all_powers rates.now) }
 {
     let modes = problem.battery().modes.len();
     let count = problem.intervals() as usize * modes;
@@ -85,7 +85,7 @@ fn cost_of(problem: &Problem, rates: &[Rate], interval: u32, mode: u8) -> Pot
     requires rates { length rates.now ≡ 36 }
     requires interval { interval < length problem.now.net }
     requires mode { mode < length problem.now.storage.modes }
-    ensures { result ≡ mode_cost problem.now rates.now interval mode }
+    ensures { result ≡ mode_cost problem.now all_powers rates.now interval mode }
 {
     match problem.arc(interval, mode) {
         Some(arc) => {

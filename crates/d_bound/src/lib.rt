@@ -5,7 +5,9 @@
 
 mod law;
 mod least;
+mod node;
 mod rates;
 
 pub use law::has_one_first;
 pub use least::cheapest_schedule;
+pub use node::Node;

@@ -1,13 +1,14 @@
 use Rattle.std.proofs.Common.{◌≡◌, length, ◌*◌, arith, ap, ◌∙◌}
 use Rattle.std.proofs.Math.Path.{ap₂}
 use Rattle.d_batt.specs.Storage.{Storage}
+use Rattle.d_bound.specs.PlanWays.{all_powers}
 use Rattle.d_bound.proofs.PlanArcs.{costs_more, costs_all}
 use Rattle.d_bound.proofs.least.costs_of.Goals as goal
 
 pub loop-place-preserved : goal.loop-place-preserved
 loop-place-preserved c =
     let count = c.len-modes.ensures ∙ ap (λ (s : Storage). length s.modes) c.battery.ensures in
-    costs_more c.args.problem.now c.args.rates.now c.loop-place.place c.len-modes.result c.loop-place.costs.items c.push.new.self.items c.cost_of.result
+    costs_more c.args.problem.now all_powers c.args.rates.now c.loop-place.place c.len-modes.result c.loop-place.costs.items c.push.new.self.items c.cost_of.result
     count c.loop-place.invariant c.cost_of.ensures c.in_ok-push.ensures.items
 
 pub returns : goal.returns
@@ -15,4 +16,4 @@ returns c =
     let i = c.args.problem.now in
     let count = c.len-modes.ensures ∙ ap (λ (s : Storage). length s.modes) c.battery.ensures in
     let whole : c.intervals.result * c.len-modes.result ≡ length i.net * length i.storage.modes = ap₂ ◌*◌ c.intervals.ensures.value count in
-    c.loop-place.invariant ∙ costs_all i c.args.rates.now c.loop-place.place (omega (arith, c.loop-place.auto.place-end))
+    c.loop-place.invariant ∙ costs_all i all_powers c.args.rates.now c.loop-place.place (omega (arith, c.loop-place.auto.place-end))
