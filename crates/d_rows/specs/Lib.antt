@@ -1,0 +1,5 @@
+pub mod Runs
+pub mod Blocks
+pub mod Days
+pub mod DayLending
+pub mod Lending
