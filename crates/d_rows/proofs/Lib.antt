@@ -1,3 +1,4 @@
-pub mod Cuts
-pub mod RowLemmas
-pub mod DayLemmas
+pub mod RowLaws
+mod PartLemmas
+mod RowLemmas
+mod DayLemmas

@@ -60,10 +60,6 @@ row_ends w n t b rows e l lt =
     let m : suc t * w ≤ n * w = mul-le-mul_right w (omega arith) in
     omega (arith, suc-mul t w)
 
--- and the row after it
-pub pair_ends : {X : Type 0} (w n t : ℕ) (b : List X) (rows : List (List X)) → block_rows w n b ≡ rows → length b ≡ n * w → t + 1 < length rows → t * w + w + w ≤ length b
-pair_ends w n t b rows e l lt = let h = row_ends w n (suc t) b rows e l (omega arith) in omega (arith, suc-mul t w)
-
 -- row t, as a part of the block
 pub row_part : {X : Type 0} (w n t at to : ℕ) (b : List X) (rows : List (List X)) → block_rows w n b ≡ rows → t < length rows → at ≡ t * w → to ≡ at + w → slice_range b at to ≡ get_or rows t []
 row_part {X} w n t at to b rows e lt f g =
@@ -91,10 +87,6 @@ row_lent w n t at to len b rows ws e l k lt f g =
     let new : r ≡ refill (length (get_or rows t [])) (get_or rows t []) ws = ap (λ (j : ℕ). refill j old ws) (sym lo) ∙ ap (λ (y : List Pot). refill (length y) y ws) is in
     ap (block_rows w n) (all_new len b X long) ∙ ap (λ (j : ℕ). block_rows w n (take at b ++ (r ++ drop j b))) g
     ∙ block_written w n t at b r f (omega arith) (omega arith) lr ∙ ap (λ (y : List (List Pot)). set y t r) e ∙ ap (set rows t) new
-
--- a row of its width replaces the old one, and all others stay
-pub with_row_is : (rows : List (List Pot)) (t : ℕ) (ws : List Pot) → length ws ≡ length (get_or rows t []) → with_row rows t ws ≡ set rows t ws
-with_row_is rows t ws e = ap (set rows t) (all_new (length (get_or rows t [])) (get_or rows t []) ws e)
 
 -- two rows that are not one row are apart
 apart_by : (w s t : ℕ) → s ≢ t → (s < t) ⊎ (t ≤ s) → (s * w + w ≤ t * w) ⊎ (t * w + w ≤ s * w)

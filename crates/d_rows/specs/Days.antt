@@ -1,13 +1,14 @@
--- Rows at day ends, and those of one day between them.
+-- Rows at day ends, and those of one day between its ends. All of it is our own rule.
 use Rattle.std.specs.Prelude.{ℕ, zero, suc, ◌+◌, List, [], cond, eqb, length, slice_index_or}
 use Rattle.d_num.specs.declared.pot.Pot.{Pot}
 use Rattle.d_rows.specs.Blocks.{with_row}
 
+-- a row for the beginning of each day and one for the end of the last, and a window of rows for one day between its ends
 pub record DayRows : Type 0 where
   pub kept : List (List Pot)
   pub window : List (List Pot)
 
--- row i of a day: its first and its last are kept
+-- row i of a day: its first and its last are kept, and those between them stand in the window
 abbrev pub day_row : DayRows → ℕ → ℕ → List Pot
 day_row r day zero = slice_index_or r.kept day []
 day_row r day (suc i) = cond (eqb i (length r.window)) (slice_index_or r.kept (day + 1) []) (slice_index_or r.window i [])

@@ -1,3 +1,4 @@
+pub mod Packed
 pub mod Runs
 pub mod Blocks
 pub mod Days

@@ -1,6 +1,6 @@
 use Rattle.std.proofs.Common.{refl, arith}
 use Rattle.d_rows.proofs.RowLemmas.{row_ends, row_part}
-use Rattle.d_rows.proofs.Layers.row_at.Goals as goal
+use Rattle.d_rows.proofs.rows.Rows.row_at.Goals as goal
 
 pub overflow_mul-start : goal.overflow_mul-start
 overflow_mul-start c = let h = row_ends _ _ c.args.t _ _ c.self.view_is c.self.invariant c.requires in record { fits = omega arith }

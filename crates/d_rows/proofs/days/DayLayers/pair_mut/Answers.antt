@@ -2,7 +2,7 @@ use Rattle.std.proofs.Common.{◌≡◌, ◌∙◌, ◌+◌, ◌-◌, [], ap, sy
 use Rattle.d_rows.specs.Blocks.{with_row}
 use Rattle.d_rows.specs.Days.{day_row, with_day_row}
 use Rattle.d_rows.proofs.DayLemmas.{days_of, kept_long, window_long, day_place, day_written}
-use Rattle.d_rows.proofs.DayLayers.pair_mut.Goals as goal
+use Rattle.d_rows.proofs.days.DayLayers.pair_mut.Goals as goal
 
 pub returns : goal.returns
 returns c =

@@ -1,7 +1,7 @@
 use Rattle.std.proofs.Common.{◌≡◌, ◌∙◌, ◌+◌, ◌-◌, [], ap, sym, refl, arith, length, get_or-take}
 use Rattle.d_rows.specs.Days.{day_row, with_day_row}
 use Rattle.d_rows.proofs.DayLemmas.{kept_long, day_written}
-use Rattle.d_rows.proofs.DayLayers.last_mut.Goals as goal
+use Rattle.d_rows.proofs.days.DayLayers.last_mut.Goals as goal
 
 pub returns : goal.returns
 returns c =

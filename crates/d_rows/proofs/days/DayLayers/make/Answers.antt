@@ -1,7 +1,7 @@
 use Rattle.std.proofs.Common.{◌≡◌, ◌∙◌, ◌+◌, ◌-◌, ap, take, drop, replicate, arith, rules}
 use Rattle.std.proofs.lemmas.List.{take-replicate, drop-replicate}
 use Rattle.d_num.specs.declared.pot.Pot.TheVariants.{NoWay}
-use Rattle.d_rows.proofs.DayLayers.make.Goals as goal
+use Rattle.d_rows.proofs.days.DayLayers.make.Goals as goal
 
 pub returns : goal.returns
 returns c =

@@ -1,6 +1,6 @@
 use Rattle.std.proofs.Common.{◌∙◌, ap, sym, length}
 use Rattle.d_rows.proofs.DayLemmas.{kept_long}
-use Rattle.d_rows.proofs.DayLayers.days.Goals as goal
+use Rattle.d_rows.proofs.days.DayLayers.days.Goals as goal
 
 pub returns : goal.returns
 returns c =

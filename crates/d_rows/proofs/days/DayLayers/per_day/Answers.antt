@@ -1,6 +1,6 @@
 use Rattle.std.proofs.Common.{◌≡◌, ◌∙◌, ◌-◌, ap, sym, length, arith}
 use Rattle.d_rows.proofs.DayLemmas.{window_long}
-use Rattle.d_rows.proofs.DayLayers.per_day.Goals as goal
+use Rattle.d_rows.proofs.days.DayLayers.per_day.Goals as goal
 
 pub returns : goal.returns
 returns c =

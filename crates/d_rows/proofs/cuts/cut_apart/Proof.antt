@@ -56,11 +56,11 @@ use Rattle.d_rows.specs.Runs.{with_run}
 use Rattle.std.specs.contracts.vec.Vec.as_mut_slice as g
 use Rattle.std.specs.contracts.vec.Vec.as_mut_slice.Key.{name as #slice}
 use Rattle.std.proofs.vec.Vec.as_mut_slice.Met as g-thm
-use Rattle.d_rows.proofs.Cuts.{cuts, range_long}
-use Rattle.d_rows.specs.contracts.cut_apart as fn
-use Rattle.d_rows.specs.contracts.cut_apart.Key.{name as #self}
-use Rattle.d_rows.proofs.cut_apart.Statement as stated
-use Rattle.d_rows.proofs.cut_apart.Code as code
+use Rattle.d_rows.proofs.PartLemmas.{cuts, range_long}
+use Rattle.d_rows.specs.contracts.cuts.cut_apart as fn
+use Rattle.d_rows.specs.contracts.cuts.cut_apart.Key.{name as #self}
+use Rattle.d_rows.proofs.cuts.cut_apart.Statement as stated
+use Rattle.d_rows.proofs.cuts.cut_apart.Code as code
 
 -- where the product fits a word, the count is zero or the size fits too
 uncapped : (i k : ℕ) → i * k < 2 ^ 64 → i * capped k ≡ i * k

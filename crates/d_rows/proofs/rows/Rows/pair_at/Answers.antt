@@ -1,6 +1,6 @@
 use Rattle.std.proofs.Common.{◌∙◌, refl, arith}
 use Rattle.d_rows.proofs.RowLemmas.{row_ends, rows_apart, row_part, row_lent}
-use Rattle.d_rows.proofs.Layers.pair_at.Goals as goal
+use Rattle.d_rows.proofs.rows.Rows.pair_at.Goals as goal
 
 pub overflow_mul-start : goal.overflow_mul-start
 overflow_mul-start c = let h = row_ends _ _ c.args.write _ _ c.self.view_is c.self.invariant c.requires.write in record { fits = omega arith }
