@@ -4,5 +4,8 @@ mod StepLemmas
 mod RowLemmas
 mod FirstLemmas
 mod LowerLemmas
+mod SumLemmas
 pub mod ExistsLemmas
 mod Potentials
+mod DayLemmas
+mod DayWalks
