@@ -9,3 +9,4 @@ pub mod ExistsLemmas
 mod Potentials
 mod DayLemmas
 mod DayWalks
+pub mod DayLaws
