@@ -7,7 +7,7 @@ use Rattle.d_num.specs.declared.pot.Pot.TheVariants.{NoWay}
 use Rattle.d_num.specs.Pot.{AtMost, joined}
 use Rattle.d_path.specs.declared.ways.Move.{Move}
 use Rattle.d_path.specs.Arcs.{Arcs, next_level, level_after, intervals_of, along, way_cost, IsSound}
-use Rattle.d_path.specs.Cheapest.{IsCheapest, HasCheapest, HasWay, AllCheapest, IsFirstCheapest, entry}
+use Rattle.d_path.specs.Cheapest.{IsCheapest, HasCheapest, HasWay, IsFirstCheapest, entry}
 use Rattle.d_path.specs.Best.{IsFirstPlace, IsFirstBest, IsFirstMove, AreCostsAt, cost_by}
 use Rattle.d_path.proofs.CostLemmas.{NoWay-AtMost, along_there, joined-NoWay}
 use Rattle.d_path.proofs.WayLemmas.{level_after_in}
@@ -49,31 +49,3 @@ first_move_is a t level costs next p place after row after_is lt best there e =
       there = λ none. there (sym first.has ∙ ap (λ (o : Option ℕ). along c o (entry a next)) e ∙ ap (joined c) none ∙ joined-NoWay c);
       begins = λ tail rest. first_step a t level costs next row after_is p place after tail lt best first there e rest;
     }
-
--- the first t moves of s lead from the start to this level, from which a way is there, and begin the first cheapest way
-pub record IsOnFirst (a : Arcs) (layers : List (List Pot)) (t level : ℕ) (s : List ℕ) : Type 0 where
-  pub level_in : (a.floor ≤ level) × (level ≤ a.capacity)
-  pub there : entry a (slice_index_or layers t []) level ≢ NoWay
-  pub so_far : (tail : List ℕ) → IsFirstCheapest a t level tail → IsFirstCheapest a 0 a.start (take t s ++ tail)
-
-pub on_start : (a : Arcs) (layers : List (List Pot)) (s : List ℕ) → IsSound a → entry a (slice_index_or layers 0 []) a.start ≢ NoWay → IsOnFirst a layers 0 a.start s
-on_start a layers s sound there = record { level_in = sound.start_in; there = there; so_far = λ tail first. first }
-
-pub on_way : (a : Arcs) (layers : List (List Pot)) (t level : ℕ) (s : List ℕ) → AllCheapest a layers → t ≤ intervals_of a → IsOnFirst a layers t level s → HasWay a t level
-on_way a layers t level s all le on = cheapest_there a t level (entry a (slice_index_or layers t []) level) (all t le level on.level_in.0 on.level_in.1) on.there
-
-pub on_more : (a : Arcs) (layers : List (List Pot)) (t level number after : ℕ) (s next : List ℕ) (row : List Pot) → t < length s → IsOnFirst a layers t level s → row ≡ slice_index_or layers (t + 1) [] → IsFirstMove a t level row number after → IsOnFirst a layers (t + 1) after (slice_set s t number)
-on_more a layers t level number after s next row lt on same move = record {
-  level_in = level_after_in a level number after move.leads;
-  there = subst (λ (r : List Pot). entry a r after ≢ NoWay) same move.there;
-  so_far = λ tail rest.
-      let front : take (t + 1) (slice_set s t number) ≡ take t s ++ (number ∷ []) = take_more_set s t number lt in
-      let whole : take (t + 1) (slice_set s t number) ++ tail ≡ take t s ++ (number ∷ tail) = ap (λ (l : List ℕ). l ++ tail) front ∙ append_assoc (take t s) (number ∷ []) tail in
-      subst (λ (l : List ℕ). IsFirstCheapest a 0 a.start l) (sym whole) (on.so_far (number ∷ tail) (move.begins tail rest));
-}
-
-pub on_end : (a : Arcs) (layers : List (List Pot)) (t level : ℕ) (s : List ℕ) → IsSound a → AllCheapest a layers → t ≡ intervals_of a → t ≡ length s → IsOnFirst a layers t level s → IsFirstCheapest a 0 a.start s
-on_end a layers t level s sound all at_end long on =
-    let last = first_end a t level (entry a (slice_index_or layers t []) level) sound (omega arith) (all t (omega arith) level on.level_in.0 on.level_in.1) on.there in
-    let whole : take t s ++ [] ≡ s = append-nil (take t s) ∙ take_all t s (omega arith) in
-    subst (λ (l : List ℕ). IsFirstCheapest a 0 a.start l) whole (on.so_far [] last)

@@ -30,10 +30,6 @@ entry a row level = slice_index_or row (level - a.floor) NoWay
 abbrev pub HasCheapest : Arcs → ℕ → List Pot → Type 0
 HasCheapest a t row = (level : ℕ) → a.floor ≤ level → level ≤ a.capacity → IsCheapest a t level (entry a row level)
 
--- each row has the least costs at its interval, the last one those at the month's end
-abbrev pub AllCheapest : Arcs → List (List Pot) → Type 0
-AllCheapest a layers = (t : ℕ) → t ≤ intervals_of a → HasCheapest a t (slice_index_or layers t [])
-
 -- each row has one column per level from floor to capacity
 abbrev pub IsWide : ℕ → ℕ → List (List Pot) → Type 0
 IsWide floor capacity layers = All (λ row. floor + length row ≡ capacity + 1) layers

@@ -1,4 +1,5 @@
 pub mod Arcs
 pub mod Cheapest
 pub mod Best
-pub mod Rows
+pub mod Sums
+pub mod Days

@@ -4,14 +4,12 @@
 //! This crate knows nothing of tariffs or energy: a cost is a number, or says that the move may not be used there.
 #![tactic(auto)]
 
+mod days;
 mod first;
-mod layers;
 mod least;
 mod span;
 mod steps;
 mod ways;
 
-pub use first::first_cheapest;
-pub use layers::Layers;
-pub use least::backward;
+pub use days::{backward_days, fill_day, first_cheapest_days};
 pub use ways::{Move, Ways};

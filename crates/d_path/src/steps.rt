@@ -9,6 +9,7 @@ ghost use Rattle.d_path.specs.Best.{IsFirstBest, AreCostsAt, cost_by};
 
 use crate::ways::{Move, Ways};
 use d_num::Pot;
+use d_rows::Packed;
 
 /// The least that the moves cost, and the number of the first move that costs so much.
 #[derive(Drop)]
@@ -34,7 +35,7 @@ pub fn next_level(ways: &Ways, level: u8, step: &Move) -> Option<u8>
 }
 
 /// What the moves cost in interval t, by their numbers.
-pub fn costs_at<'a>(ways: &Ways<'a>, t: usize) -> &'a [Pot]
+pub fn costs_at<'a>(ways: &Ways<'a>, t: usize) -> &'a [Packed]
     requires sound { IsSound (arcs_of ways.now) }
     requires inside { t < intervals_of (arcs_of ways.now) }
     ensures costs { AreCostsAt (arcs_of ways.now) t result.now }
@@ -46,7 +47,7 @@ pub fn costs_at<'a>(ways: &Ways<'a>, t: usize) -> &'a [Pot]
 }
 
 /// What it costs to go on by a move of this cost, where `next` has what it costs after it.
-pub fn cost_via(ways: &Ways, cost: Pot, level: u8, step: &Move, next: &[Pot]) -> Pot
+pub fn cost_via(ways: &Ways, cost: Pot, level: u8, step: &Move, next: &[Packed]) -> Pot
     requires cost { IsPotWithin (10 ^ 32) cost }
     requires wide { ways.now.floor + length next.now ≡ ways.now.capacity + 1 }
     requires within { All (IsPotWithin (10 ^ 36)) next.now }
@@ -56,7 +57,7 @@ pub fn cost_via(ways: &Ways, cost: Pot, level: u8, step: &Move, next: &[Pot]) ->
         return Pot::NoWay;
     };
     match next_level(ways, level, step) {
-        Some(after) => next[usize::from(after - ways.floor)].plus(money),
+        Some(after) => next[usize::from(after - ways.floor)].get().plus(money),
         None => Pot::NoWay,
     }
 }
@@ -71,7 +72,7 @@ fn is_at_most(one: &Pot, other: &Pot) -> bool
 }
 
 /// The best move from this level, where `costs` has what each move costs and `next` what it costs after it.
-pub fn best_move(ways: &Ways, costs: &[Pot], level: u8, next: &[Pot]) -> Best
+pub fn best_move(ways: &Ways, costs: &[Packed], level: u8, next: &[Packed]) -> Best
     requires long { length costs.now ≡ length ways.now.moves.now }
     requires costs_within { All (IsPotWithin (10 ^ 32)) costs.now }
     requires wide { ways.now.floor + length next.now ≡ ways.now.capacity + 1 }
@@ -82,7 +83,7 @@ pub fn best_move(ways: &Ways, costs: &[Pot], level: u8, next: &[Pot]) -> Best
     let mut least = Pot::NoWay;
     let mut first = 0;
     for (number, step) in ways.moves.iter().enumerate() {
-        let cost = cost_via(ways, costs[number], level, step, next);
+        let cost = cost_via(ways, costs[number].get(), level, step, next);
         let stays = is_at_most(&least, &cost);
         if !stays {
             least = cost;

@@ -1,6 +1,6 @@
 //! Moves, what they cost, and the levels between which they may be used.
 
-use d_num::Pot;
+use d_rows::Packed;
 
 /// One thing that may be done in an interval.
 #[derive(Clone, Copy)]
@@ -19,8 +19,8 @@ pub struct Move {
 /// to `capacity`, and the last level at least `end`. This is our own rule.
 #[derive(Clone, Copy)]
 pub struct Ways<'a> {
-    /// What each move costs in each interval, in money, interval by interval; `NoWay` marks a move that may not be used there.
-    pub costs: &'a [Pot],
+    /// What each move costs in each interval, in money, interval by interval; no way marks a move that may not be used there.
+    pub costs: &'a [Packed],
     /// The moves, by their numbers.
     pub moves: &'a [Move],
     /// The least level that a way may pass.

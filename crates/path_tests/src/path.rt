@@ -1,17 +1,18 @@
-//! Small problems, with least costs and ways worked out by hand.
+//! A small month of two days, with least costs and ways worked out by hand.
 
 ghost use Rattle.std.specs.Prelude.{◌≡◌, ◌*◌, ◌^◌};
 ghost use Rattle.d_num.specs.Amount.{IsWithin};
 ghost use Rattle.d_num.specs.declared.pot.Pot.TheVariants.{To};
 
-use d_num::{Money, NoMemory, Pot};
-use d_path::{Layers, Move, Ways, backward, first_cheapest};
+use d_num::{Money, NoMemory};
+use d_path::{Move, Ways, backward_days, fill_day, first_cheapest_days};
+use d_rows::{DayLayers, Packed};
 
-fn cost(units: i128) -> Pot
+fn cost(units: i128) -> Packed
     requires { IsWithin (10 ^ 6) units }
     ensures { result ≡ To units }
 {
-    Pot::To(Money::new(units).unwrap())
+    Packed::to(Money::new(units).unwrap())
 }
 
 // Levels 1 to 3. The moves are to stay, to rise by one and, from level 3 alone, to fall by one.
@@ -34,17 +35,21 @@ const MOVES: [Move; 3] = [
 ];
 
 #[test]
-fn takes_the_first_of_two_cheapest_ways(rt: HostRuntime) -> Result<(), NoMemory> {
+fn takes_the_first_of_two_cheapest_ways_over_two_days(rt: HostRuntime) -> Result<(), NoMemory> {
+    let no_way = Packed::no_way();
     let costs = [
         cost(5),
         cost(7),
         cost(1),
         cost(5),
-        Pot::NoWay,
+        no_way,
         cost(2),
         cost(4),
         cost(6),
         cost(-3),
+        cost(1),
+        cost(9),
+        cost(1),
     ];
     let ways = Ways {
         costs: &costs,
@@ -54,16 +59,17 @@ fn takes_the_first_of_two_cheapest_ways(rt: HostRuntime) -> Result<(), NoMemory>
         start: 1,
         end: 2,
     };
-    let mut layers = Layers::make(rt.alloc(), 4, 3)?;
-    assert!(rt; layers.row(0) == [Pot::NoWay, Pot::NoWay, Pot::NoWay].as_slice());
-    backward(&ways, &mut layers);
-    assert!(rt; layers.row(0) == [cost(16), cost(9), cost(7)].as_slice());
-    assert!(rt; layers.row(1) == [cost(11), cost(9), cost(2)].as_slice());
-    assert!(rt; layers.row(2) == [cost(6), cost(4), cost(-3)].as_slice());
-    assert!(rt; layers.row(3) == [Pot::NoWay, cost(0), cost(0)].as_slice());
-    // To rise first costs 16 as well.
-    let mut schedule = [9, 9, 9];
-    assert!(rt; first_cheapest(&ways, &layers, &mut schedule));
-    assert_eq!(rt; schedule, [0, 0, 1]);
+    let mut layers = DayLayers::make(rt.alloc(), 2, 2, 3)?;
+    assert!(rt; layers.row(0, 0) == [no_way, no_way, no_way].as_slice());
+    backward_days(&ways, &mut layers);
+    assert!(rt; layers.row(0, 0) == [cost(17), cost(10), cost(8)].as_slice());
+    assert!(rt; layers.row(0, 2) == [cost(7), cost(5), cost(-2)].as_slice());
+    assert!(rt; layers.row(1, 2) == [no_way, cost(0), cost(0)].as_slice());
+    fill_day(&ways, 1, &mut layers);
+    assert!(rt; layers.row(1, 1) == [cost(9), cost(1), cost(1)].as_slice());
+    // To rise first costs 17 as well.
+    let mut schedule = [9, 9, 9, 9];
+    assert!(rt; first_cheapest_days(&ways, &mut layers, &mut schedule));
+    assert_eq!(rt; schedule, [0, 0, 1, 0]);
     Ok(())
 }

@@ -11,8 +11,8 @@ loop-column-preserved c =
     let inside : c.loop-column.column < length c.loop-column.row = omega arith in
     columns_more a (intervals_of a) c.loop-column.row c.loop-column.column level c.if-level-ways.entry c.loop-column.invariant inside refl
     (elim c.if-level-ways.branch [
-      | then-level-ways w ↦ rw (w.entry-is) (end_below a level c.requires.sound w.if-level-ways.true)
+      | then-level-ways w ↦ rw (w.entry-is, w.no_way.ensures) (end_below a level c.requires.sound w.if-level-ways.true)
       | else-level-ways w ↦
           let nothing : c.unwrap-nothing.result ≡ pos 0 = rw c.unwrap-nothing.ensures at c.new.ensures.value in
-          rw (w.entry-is, nothing) (end_at a level c.requires.sound w.if-level-ways.false)
+          rw (w.entry-is, w.to.ensures, nothing) (end_at a level c.requires.sound w.if-level-ways.false)
     ])

@@ -13,7 +13,7 @@ loop-number-preserved c =
     let f = cost_by a c.args.costs.now c.args.next.now c.args.level in
     let k = c.loop-number.number in
     let p = c.loop-number.least in
-    let same : c.cost_via-cost.result ≡ f k = c.cost_via-cost.ensures ∙ read_cost a c.args.costs.now c.args.next.now c.args.level k c.index-costs-number.result _ c.loop-number-test.true c.requires.long c.index-costs-number.is in
+    let same : c.cost_via-cost.result ≡ f k = (rw c.get.ensures at c.cost_via-cost.ensures) ∙ read_cost a c.args.costs.now c.args.next.now c.args.level k c.index-costs-number.result _ c.loop-number-test.true c.requires.long c.index-costs-number.is in
     elim c.if-not-stays.branch [
       | then-not-stays w ↦
           rw (w.least-is, w.first-is, same)

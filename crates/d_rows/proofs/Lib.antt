@@ -1,0 +1,4 @@
+pub mod RowLaws
+mod PartLemmas
+mod RowLemmas
+mod DayLemmas
