@@ -1,12 +1,12 @@
 -- Rising lists of candidates, and what a range has of them.
-use Rattle.std.proofs.Common.{Less, ℕ, ℤ, suc, zero, pos, Bool, true, false, cond, ◌≤ℤ◌, ◌<ℤ◌, ◌≡◌, ◌≢◌, ◌⊎◌, ◌<◌, ◌≤◌, ◌+◌, ◌-◌, int_lt, Some, List, All, [], ◌∷◌, length, drop, sym, subst, ap, refl, inl, inr, arith, ◌∙◌}
+use Rattle.std.proofs.Common.{Less, ℕ, ℤ, suc, zero, pos, Bool, true, false, cond, ◌≤ℤ◌, ◌<ℤ◌, ◌≡◌, ◌≢◌, ◌⊎◌, ◌<◌, ◌≤◌, ◌+◌, ◌-◌, int_lt, Some, List, All, [], ◌∷◌, length, slice_index_or, sym, subst, ap, refl, inl, inr, arith, ◌∙◌}
 use Rattle.std.specs.List.{Contains, filter, find, dedup}
 use Rattle.std.specs.List.Sorted.{IsStrictlySortedBy, IsSorted, IsPermutation}
 use Rattle.std.specs.Ordering.{int_cmp, int_eq, MatchOrdering}
 use Rattle.std.proofs.lemmas.Cmp.{int_ranked, int_cmp_total, int_eq_equiv}
 use Rattle.std.proofs.lemmas.Bool.{cases_eq, cases_lt}
 use Rattle.std.proofs.lemmas.Int.{ints, by_lt_z}
-use Rattle.std.proofs.lemmas.List.{get_or_default, at_drop_more}
+use Rattle.std.proofs.lemmas.List.{get_or_default}
 use Rattle.std.proofs.lemmas.List.Elements.{All-from_recursion, filter_passes, All-filter, Contains-get_or}
 use Rattle.std.proofs.lemmas.List.Kept.{AllPairs-cons, AllPairs-filter, IsStrictlySortedBy-dedup, Contains-dedup, Contains-from_dedup}
 use Rattle.std.proofs.lemmas.List.Sorted.{Contains-permutation, IsPermutation-sym}
@@ -39,22 +39,6 @@ same_members old sorted moved = (
   λ x h. Contains-permutation sorted old x (IsPermutation-sym old sorted moved) (Contains-from_dedup int_eq sorted x h),
 )
 
--- a filter keeps no more than there is
-pub fewer : (r : Range) (xs : List ℤ) → length (in_range r xs) ≤ length xs
-fewer r [] = omega arith
-fewer r (x ∷ xs) = let h = fewer r xs in elim (is_in r x) as (λ b. length (cond b (x ∷ in_range r xs) (in_range r xs)) ≤ suc (length xs)) [ true ↦ omega arith | false ↦ omega arith ]
-
--- one that passes is counted
-pub counted : (r : Range) (xs : List ℤ) (i : ℕ) (c : ℤ) (count : ℕ) → i < length xs → c ≡ number_at xs i → is_in r c ≡ true
-    → count + length (in_range r (drop i xs)) ≡ length (in_range r xs) → count + 1 ≤ length xs
-counted r xs i c count lt here yes_in sum =
-    let e = at_drop_more (in_range r) xs i (pos 0) lt in
-    let t : is_in r (number_at xs i) ≡ true = ap (is_in r) (sym here) ∙ yes_in in
-    let k : in_range r (number_at xs i ∷ drop (i + 1) xs) ≡ number_at xs i ∷ in_range r (drop (i + 1) xs) = rw t refl in
-    let n = ap length (e ∙ k) in
-    let most = fewer r xs in
-    omega arith
-
 -- a list has this number somewhere
 there : (xs : List ℤ) (x : ℤ) → Contains xs x → (k : ℕ) × (k < length xs) × (number_at xs k ≡ x)
 there xs x h = (h.0, h.1, get_or_default xs h.0 (pos 0) x h.1 ∙ h.2)
@@ -69,7 +53,7 @@ contains_filter p (y ∷ ys) x (suc k) lt at t =
       | false ↦ h
     ]
 
-in_from : (r : Range) (c : ℤ) → is_in r c ≡ true → (r.low ≤ℤ c) × (c ≤ℤ r.high)
+pub in_from : (r : Range) (c : ℤ) → is_in r c ≡ true → (r.low ≤ℤ c) × (c ≤ℤ r.high)
 in_from r c e = grind (arith, ints)
 
 pub in_test : (r : Range) (c : ℤ) → r.low ≤ℤ c → c ≤ℤ r.high → is_in r c ≡ true
@@ -114,10 +98,10 @@ cut_at xs r m rising more =
 pub is_counted : (xs : List ℤ) (r : Range) (x : ℤ) → Contains xs x → is_in r x ≡ true → 1 ≤ length (in_range r xs)
 is_counted xs r x h test = let t = there xs x h in let f = contains_filter (is_in r) xs x t.0 t.1 t.2 test in let lt = f.1 in omega arith
 
-above_test : (at x : ℤ) → at <ℤ x → int_lt at x ≡ true
+pub above_test : (at x : ℤ) → at <ℤ x → int_lt at x ≡ true
 above_test at x lt = grind (arith, ints)
 
-not_above_test : (at x : ℤ) → x ≤ℤ at → int_lt at x ≡ false
+pub not_above_test : (at x : ℤ) → x ≤ℤ at → int_lt at x ≡ false
 not_above_test at x le = grind (arith, ints)
 
 is_there : (list : List ℤ) (y : ℤ) (has : Contains list y) → number_at list has.0 ≡ y
@@ -177,10 +161,10 @@ same_z : (x : ℤ) → x ≤ℤ x
 same_z x = omega (arith, ints)
 
 -- an earlier number of a rising list isn't above a later one
-not_above : (xs : List ℤ) (i j : ℕ) → IsRising xs → i ≤ j → j < length xs → number_at xs i ≤ℤ number_at xs j
-not_above xs i j rising le lt = elim (cases_eq i j) [
-  | inl e ↦ subst (λ n. number_at xs i ≤ℤ number_at xs n) e (same_z _)
-  | inr ne ↦ let h = rising i j (pos 0) (omega arith) lt in omega (arith, ints)
+pub not_above : (xs : List ℤ) (i j : ℕ) (d : ℤ) → IsRising xs → i ≤ j → j < length xs → slice_index_or xs i d ≤ℤ slice_index_or xs j d
+not_above xs i j d rising le lt = elim (cases_eq i j) [
+  | inl e ↦ subst (λ n. slice_index_or xs i d ≤ℤ slice_index_or xs n d) e (same_z _)
+  | inr ne ↦ let h = rising i j d (omega arith) lt in omega (arith, ints)
 ]
 
 pub range_has : RangesHaveCandidates
@@ -189,8 +173,8 @@ range_has list rising powers = record {
       let t = there list x h in
       let lt = t.1 in
       record {
-        low = subst (λ z. number_at list 0 ≤ℤ z) t.2 (not_above list 0 t.0 rising (omega arith) t.1);
-        high = subst (λ z. z ≤ℤ number_at list (length list - 1)) t.2 (not_above list t.0 (length list - 1) rising (omega arith) (omega arith));
+        low = subst (λ z. number_at list 0 ≤ℤ z) t.2 (not_above list 0 t.0 (pos 0) rising (omega arith) t.1);
+        high = subst (λ z. z ≤ℤ number_at list (length list - 1)) t.2 (not_above list t.0 (length list - 1) (pos 0) rising (omega arith) (omega arith));
       };
   ends = whole list rising powers;
 }
@@ -202,7 +186,7 @@ range_has list rising powers = record {
         let last = all (length (x ∷ xs) - 1) (pos 0) (omega arith) in
         record {
           floor = first.0;
-          order = not_above (x ∷ xs) 0 (length (x ∷ xs) - 1) rise (omega arith) (omega arith);
+          order = not_above (x ∷ xs) 0 (length (x ∷ xs) - 1) (pos 0) rise (omega arith) (omega arith);
           limit = last.1;
           ends = inl (Contains-get_or (x ∷ xs) 0 (pos 0) (omega arith), Contains-get_or (x ∷ xs) (length (x ∷ xs) - 1) (pos 0) (omega arith));
         }

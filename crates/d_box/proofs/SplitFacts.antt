@@ -86,11 +86,11 @@ lists_more old lists g end v w to lt is e rises same =
     (rise_more (lists_of old) (lists_of lists) g w.items to (omega arith) rises (subst (λ q. HaveSameMembers q w.items) (sym (items_at lists g v (omega arith) e)) same))
 
 -- the split that the code finds
-pub split_found : (space : Space) (energy : List (List Tier)) (groups : List Group) (candidates : List (List ℤ)) (group : ℕ) (at : ℤ) (list : List ℤ) (count : ℕ) → HasNoTotal space energy (length energy) → IsWidestGroup space groups (length groups) group
+pub split_found : (space : Space) (energy : List (List Tier)) (groups : List Group) (candidates : List (List ℤ)) (group : ℕ) (at : ℤ) (list : List ℤ) → HasNoTotal space energy (length energy) → IsWidestGroup space groups (length groups) group
     → length candidates ≡ length groups → AreEnds space candidates → All IsRising candidates
-    → list ≡ list_at candidates group → count ≡ length (in_range (range_at space.peaks group) list) → at ≡ number_at (in_range (range_at space.peaks group) list) (middle count)
+    → list ≡ list_at candidates group → at ≡ number_at (in_range (range_at space.peaks group) list) (middle (length (in_range (range_at space.peaks group) list)))
     → IsPeakSplit space energy groups candidates group at
-split_found space energy groups candidates group at list count none w long ends rise same many is =
+split_found space energy groups candidates group at list none w long ends rise same is =
     let r = range_at space.peaks group in
     peak_split space energy groups candidates group at none w long ends rise
-    (is ∙ (ap (λ n. number_at (in_range r list) (middle n)) many ∙ ap (λ q. number_at (in_range r q) (middle (length (in_range r q)))) same))
+    (is ∙ ap (λ q. number_at (in_range r q) (middle (length (in_range r q)))) same)

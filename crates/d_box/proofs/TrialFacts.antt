@@ -1,47 +1,13 @@
--- Which tier holds an amount, and the least and greatest of some prices.
-use Rattle.std.proofs.Common.{ℕ, suc, zero, ℤ, pos, ◌≤ℤ◌, ◌+ℤ◌, ◌-ℤ◌, ◌≡◌, ◌⊎◌, ◌<◌, ◌≤◌, ◌+◌, ◌-◌, ◌*◌, ◌^◌, true, false, List, [], ◌∷◌, length, drop, slice_index_or, sym, subst, ap, refl, inl, inr, arith, ◌∙◌}
+-- The least and greatest of some prices.
+use Rattle.std.proofs.Common.{ℕ, suc, zero, ℤ, pos, ◌≤ℤ◌, ◌+ℤ◌, ◌-ℤ◌, ◌≡◌, ◌⊎◌, ◌<◌, ◌*◌, ◌^◌, List, [], ◌∷◌, length, slice_index_or, sym, subst, ap, inl, inr, arith, ◌∙◌}
 use Rattle.std.specs.List.{Contains}
 use Rattle.std.specs.Int.{int_max, int_min}
 use Rattle.std.proofs.lemmas.Int.{ints, clamps, by_lt_z}
 use Rattle.std.proofs.lemmas.List.{get_or_default, get_or-map, length-map}
 use Rattle.d_tier.specs.declared.tier.Tier.{Tier}
-use Rattle.d_tier.specs.Tables.{open_tier, end_at, prices_of, IsTierTable, IsLowestPrice, IsHighestPrice}
+use Rattle.d_tier.specs.Tables.{open_tier, prices_of, IsLowestPrice, IsHighestPrice}
 use Rattle.d_num.specs.Amount.{IsWithin, IsRate}
-use Rattle.d_box.specs.Trials.{HasEnergyPrices, ends_by, holding, least_of, greatest_of, spread_of, shifted, moved}
-
-later : (tiers : List Tier) (k : ℕ) (x : ℤ) → suc k < length tiers → ends_by (end_at tiers k) x ≡ true
-    → holding (drop k tiers) x ≡ suc (holding (drop (suc k) tiers) x)
-unfolding holding
-later [] k x lt e = absurd (omega arith)
-later (tier ∷ []) k x lt e = absurd (omega arith)
-later (tier ∷ next ∷ rest) zero x lt e = rw e refl
-later (tier ∷ next ∷ rest) (suc k) x lt e = later (next ∷ rest) k x (omega arith) e
-
--- a tier that ends by the amount and isn't the last doesn't hold it
-pub holds_later : (tiers : List Tier) (k : ℕ) (x : ℤ) (n : ℕ) → k + 1 < length tiers → ends_by (end_at tiers k) x ≡ true
-    → k + holding (drop k tiers) x ≡ n → k + 1 + holding (drop (k + 1) tiers) x ≡ n
-holds_later tiers k x n lt e sum =
-    let one : suc k ≡ k + 1 = omega arith in
-    let h = later tiers k x (omega arith) e in
-    let moved : holding (drop (suc k) tiers) x ≡ holding (drop (k + 1) tiers) x = ap (λ m. holding (drop m tiers) x) one in
-    omega arith
-
--- one that doesn't end by the amount holds it, where those before it don't
-pub holds_here : (tiers : List Tier) (k : ℕ) (x : ℤ) → k + 1 < length tiers → ends_by (end_at tiers k) x ≡ false → holding (drop k tiers) x ≡ 0
-unfolding holding
-holds_here [] k x lt e = absurd (omega arith)
-holds_here (tier ∷ []) k x lt e = absurd (omega arith)
-holds_here (tier ∷ next ∷ rest) zero x lt e = rw e refl
-holds_here (tier ∷ next ∷ rest) (suc k) x lt e = holds_here (next ∷ rest) k x (omega arith) e
-
--- and so does the last
-pub holds_last : (tiers : List Tier) (k : ℕ) (x : ℤ) → k + 1 ≡ length tiers → holding (drop k tiers) x ≡ 0
-unfolding holding
-holds_last [] k x e = absurd (omega arith)
-holds_last (tier ∷ []) zero x e = refl
-holds_last (tier ∷ []) (suc k) x e = absurd (omega arith)
-holds_last (tier ∷ next ∷ rest) zero x e = absurd (omega arith)
-holds_last (tier ∷ next ∷ rest) (suc k) x e = holds_last (next ∷ rest) k x (omega arith)
+use Rattle.d_box.specs.Trials.{HasEnergyPrices, least_of, greatest_of, spread_of, shifted, moved}
 
 min_is : (x y : ℤ) → ((int_min x y ≡ x) × (x ≤ℤ y)) ⊎ ((int_min x y ≡ y) × (y ≤ℤ x))
 min_is x y = by_lt_z x y (λ lt. inl (omega (arith, ints, clamps), omega (arith, ints))) (λ ge. inr (omega (arith, ints, clamps), ge))
@@ -138,28 +104,6 @@ pub bounds : (tiers : List Tier) (lowest highest : ℤ) → HasEnergyPrices tier
 bounds tiers lowest highest prices low high =
     bounds_of lowest highest (price_within tiers lowest prices low.one) (price_within tiers highest prices high.one)
     (subst (λ z. lowest ≤ℤ z) high.one.2 (low.lowest high.one.0 highest high.one.1))
-
--- a tier that doesn't end by the amount is the one that holds it
-pub found_here : (tiers : List Tier) (k last : ℕ) (x : ℤ) → last ≡ length tiers → k < last - 1 → ends_by (end_at tiers k) x ≡ false
-    → k + holding (drop k tiers) x ≡ holding tiers x → k ≡ holding tiers x
-found_here tiers k last x long lt e sum = let z = holds_here tiers k x (omega arith) e in omega arith
-
-pub found_later : (tiers : List Tier) (k last : ℕ) (x : ℤ) → last ≡ length tiers → k < last - 1 → ends_by (end_at tiers k) x ≡ true
-    → k + holding (drop k tiers) x ≡ holding tiers x → k + 1 + holding (drop (k + 1) tiers) x ≡ holding tiers x
-found_later tiers k last x long lt e sum = holds_later tiers k x (holding tiers x) (omega arith) e sum
-
-found_last : (tiers : List Tier) (k last : ℕ) (x : ℤ) → 1 ≤ last → last ≡ length tiers → k ≡ last - 1
-    → k + holding (drop k tiers) x ≡ holding tiers x → last - 1 ≡ holding tiers x
-found_last tiers k last x some long at sum = let z = holds_last tiers k x (omega arith) in omega arith
-
-some_tier : (tiers : List Tier) → IsTierTable tiers → 1 ≤ length tiers
-some_tier [] table = absurd table.whole
-some_tier (tier ∷ rest) table = omega arith
-
--- where none but the last can hold it, the last does
-pub found_end : (tiers : List Tier) (k last : ℕ) (x : ℤ) → IsTierTable tiers → last ≡ length tiers → last - 1 ≤ k → k ≤ last - 1
-    → k + holding (drop k tiers) x ≡ holding tiers x → last - 1 ≡ holding tiers x
-found_end tiers k last x table long from to sum = let some = some_tier tiers table in found_last tiers k last x (omega arith) long (omega arith) sum
 
 -- what a moved slope is, by the prices that were found
 pub moved_is : (tiers : List Tier) (lowest highest spread least greatest target slope result : ℤ) (step : ℕ) → IsLowestPrice tiers lowest

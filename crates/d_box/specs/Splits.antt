@@ -3,13 +3,13 @@ use Rattle.std.specs.Prelude.{ℕ, ℤ, pos, ◌≤ℤ◌, ◌<ℤ◌, ◌-ℤ�
 use Rattle.std.specs.List.{All}
 use Rattle.d_box.specs.Boxes.{range_at, number_at, IsPeakCut}
 use Rattle.d_box.specs.Candidates.{list_at, in_range, next_above}
-use Rattle.d_box.specs.TierEnds.{HasNoInner, IsLowestInner}
 use Rattle.d_box.specs.declared.space.Range.{Range}
 use Rattle.d_box.specs.declared.space.Space.{Space}
 use Rattle.d_box.specs.declared.space.Split.{Split}
 use Rattle.d_box.specs.declared.space.Split.TheVariants.{Total, Peak}
 use Rattle.d_num.specs.Amount.{IsUpTo}
 use Rattle.d_tier.specs.Charges.{peak_charge}
+use Rattle.d_tier.specs.TierEnds.{HasNoInner, IsLowestInner}
 use Rattle.d_tier.specs.declared.tier.Tier.{Tier}
 use Rattle.d_tier.specs.declared.peak.Peak.{Peak as Group}
 

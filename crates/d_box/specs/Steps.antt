@@ -1,10 +1,8 @@
 -- What loops have found so far; only private functions cite these words.
-use Rattle.std.specs.Prelude.{ℕ, ℤ, pos, ◌≤ℤ◌, ◌<ℤ◌, ◌≡◌, ◌⊎◌, ◌<◌, List, Option, Some, None}
+use Rattle.std.specs.Prelude.{ℕ, ℤ, pos, ◌≡◌, ◌<◌, List, Option, Some, None}
 use Rattle.d_box.specs.Boxes.{range_at}
 use Rattle.d_box.specs.Candidates.{IsRising, list_at, AreCandidatesOf}
 use Rattle.d_box.specs.Splits.{HasNoTotal, IsFirstInner, gap_at, HasNoGap, IsWidestGroup}
-use Rattle.d_box.specs.TierEnds.{HasNoInner, IsLowestInner}
-use Rattle.d_box.specs.declared.space.Range.{Range}
 use Rattle.d_box.specs.declared.space.Space.{Space}
 use Rattle.d_box.specs.declared.space.Split.{Split}
 use Rattle.d_box.specs.declared.space.Split.TheVariants.{Total, Peak}
@@ -27,11 +25,6 @@ IsWidest space groups n (Some group) = IsWidestGroup space groups n group
 abbrev pub ArePowers : Space → ℕ → Type 0
 ArePowers space n = (group : ℕ) → group < n → IsWatt (range_at space.peaks group).low × IsWatt (range_at space.peaks group).high
 
--- what the loop over tiers has found
-pub record IsLowestTo (tiers : List Tier) (low high : ℤ) (n : ℕ) (lowest : ℤ) : Type 0 where
-  pub none : HasNoInner tiers low lowest n
-  pub reached : (lowest ≡ high) ⊎ IsLowestInner tiers low high n lowest
-
 -- what the loop over groups has found
 abbrev pub IsWidestTo : Space → List Group → ℕ → Option ℕ → ℤ → Type 0
 IsWidestTo space groups n None greatest = (greatest ≡ pos 0) × HasNoGap space groups n
@@ -41,9 +34,3 @@ IsWidestTo space groups n (Some group) greatest = (greatest ≡ gap_at space gro
 pub record AreCandidatesTo (old new : List (List ℤ)) (n : ℕ) : Type 0 where
   pub lists : AreCandidatesOf old new
   pub rise : (group : ℕ) → group < n → IsRising (list_at new group)
-
--- the lower of what was found and of a tier's end, where that is above the low end
-pub record IsLowered (range : Range) (lowest : ℤ) (end : Option ℤ) (lower : ℤ) : Type 0 where
-  pub below : (e : ℤ) → end ≡ Some e → range.low <ℤ e → lower ≤ℤ e
-  pub kept : lower ≤ℤ lowest
-  pub one : (lower ≡ lowest) ⊎ ((end ≡ Some lower) × (range.low <ℤ lower) × (lower <ℤ lowest))

@@ -1,10 +1,11 @@
 -- Slopes, at which the energy of tiered periods is counted, and which slopes are tried. All of it is our own rule.
-use Rattle.std.specs.Prelude.{ℕ, suc, ℤ, pos, ◌+ℤ◌, ◌-ℤ◌, ◌*ℤ◌, ◌≡◌, ◌<◌, ◌+◌, ◌-◌, ◌*◌, ◌^◌, ◌/◌, ◌%◌, ◌==◌, Bool, false, nat_lt, int_le, int_div, if◌then◌else◌, List, [], ◌∷◌, Option, Some, None, slice_index_or}
+use Rattle.std.specs.Prelude.{ℕ, ℤ, pos, ◌+ℤ◌, ◌-ℤ◌, ◌*ℤ◌, ◌≡◌, ◌<◌, ◌+◌, ◌-◌, ◌*◌, ◌^◌, ◌/◌, ◌%◌, ◌==◌, nat_lt, int_div, if◌then◌else◌, List, [], ◌∷◌, Option, Some, None, slice_index_or}
 use Rattle.std.specs.Int.{int_max, int_min}
 use Rattle.std.specs.List.{All}
 use Rattle.d_num.specs.Amount.{IsWithin}
 use Rattle.d_tier.specs.declared.tier.Tier.{Tier}
 use Rattle.d_tier.specs.Tables.{prices_of, price_at}
+use Rattle.d_tier.specs.TierEnds.{holding}
 use Rattle.d_box.specs.declared.space.Space.{Space}
 use Rattle.d_box.specs.declared.slopes.Slopes.{Slopes}
 use Rattle.d_box.specs.Boxes.{range_at}
@@ -13,17 +14,6 @@ use Rattle.d_box.specs.Splits.{tiers_at}
 -- a period's prices are at most 3000 USD per kWh in size (our own limit)
 abbrev pub HasEnergyPrices : List Tier → Type 0
 HasEnergyPrices tiers = All (λ tier. IsWithin (3 * 10 ^ 21) tier.price) tiers
-
--- whether a tier ends at an amount or below it
-abbrev pub ends_by : Option ℤ → ℤ → Bool
-ends_by None x = false
-ends_by (Some end) x = int_le end x
-
--- the tier that holds an amount: the first whose end is greater than the amount, or the last; counted from 0
-unfoldable pub holding : List Tier → ℤ → ℕ
-holding [] x = 0
-holding (tier ∷ []) x = 0
-holding (tier ∷ next ∷ rest) x = if ends_by tier.end x then suc (holding (next ∷ rest) x) else 0
 
 -- the least of some numbers; 0 where there are none
 unfoldable pub least_of : List ℤ → ℤ

@@ -4,6 +4,7 @@ ghost use Rattle.std.specs.Prelude.{◌≡◌, ◌<◌, length};
 ghost use Rattle.std.specs.List.{All};
 ghost use Rattle.d_box.specs.Candidates.{IsRising, AreCandidatesOf, HaveSameMembers, lists_of, list_at, range_of, next_above};
 
+use crate::places::first_above;
 use crate::space::Range;
 use std::marker::Model;
 
@@ -33,18 +34,6 @@ fn rise(list: &mut Vec<i64>)
 {
     list.sort_unstable();
     list.dedup();
-}
-
-/// The first of these numbers above a power, or that power.
-fn first_above(list: &[i64], power: &i64) -> i64
-    ensures { result ≡ next_above list.now power.now }
-{
-    for candidate in list {
-        if *power < *candidate {
-            return *candidate;
-        }
-    }
-    *power
 }
 
 impl Candidates {
@@ -95,6 +84,6 @@ impl Candidates {
         requires { group < length self.now }
         ensures { result ≡ next_above (list_at self.now group) power }
     {
-        first_above(self.list(group), &power)
+        first_above(self.list(group), power)
     }
 }

@@ -8,6 +8,7 @@ mod candidates;
 mod cut;
 mod held;
 mod law;
+mod places;
 mod slopes;
 mod space;
 mod splits;

@@ -4,43 +4,15 @@ ghost use Rattle.std.specs.Prelude.{◌≡◌, ◌≤◌, ◌<◌, ◌+◌, ◌*
 ghost use Rattle.std.specs.List.{All};
 ghost use Rattle.d_tier.specs.Charges.{peak_charge};
 ghost use Rattle.d_num.specs.Amount.{IsWithin, IsWatt};
-ghost use Rattle.d_box.specs.Boxes.{number_at};
-ghost use Rattle.d_box.specs.Candidates.{AreEnds, is_in, in_range};
-ghost use Rattle.d_box.specs.TierEnds.{IsInnerEnd};
-ghost use Rattle.d_box.specs.Splits.{IsSplitOf, middle, peak_gap, HasDemandPrices};
-ghost use Rattle.d_box.specs.Steps.{IsFirstTotal, IsWidest, IsLowered, ArePowers};
+ghost use Rattle.d_box.specs.Candidates.{AreEnds};
+ghost use Rattle.d_box.specs.Splits.{IsSplitOf, peak_gap, HasDemandPrices};
+ghost use Rattle.d_box.specs.Steps.{IsFirstTotal, IsWidest, ArePowers};
 
 use crate::candidates::Candidates;
+use crate::places::middle_in;
 use crate::space::{Range, Space, Split};
 use d_num::{Money, Watt};
 use d_tier::{Peak, Tiers};
-
-/// The lower of what was found and of a tier's end, where that is above the low end.
-fn lower(range: &Range, lowest: i64, end: Option<i64>) -> i64
-    ensures { IsLowered range.now lowest end result }
-{
-    if let Some(end) = end {
-        if range.low < end && end < lowest {
-            return end;
-        }
-    }
-    lowest
-}
-
-/// The lowest end of a tier strictly between both amounts.
-fn inner_end(tiers: &Tiers, range: &Range) -> Option<i64>
-    ensures { IsInnerEnd tiers.now range.now.low range.now.high (length tiers.now) result }
-{
-    let mut lowest = range.high;
-    for tier in 0..tiers.count() {
-        lowest = lower(range, lowest, tiers.end(tier));
-    }
-    if range.low < lowest && lowest < range.high {
-        Some(lowest)
-    } else {
-        None
-    }
-}
 
 /// The split of the first total with a tier end strictly inside its range.
 fn first_total(space: &Space, energy: &[Tiers]) -> Option<Split>
@@ -49,7 +21,7 @@ fn first_total(space: &Space, energy: &[Tiers]) -> Option<Split>
 {
     for (index, tiers) in energy.iter().enumerate() {
         let range = &space.totals[index];
-        if let Some(at) = inner_end(tiers, range) {
+        if let Some(at) = tiers.inner_end(range.low, range.high) {
             return Some(Split::Total {
                 index: index as u8,
                 at,
@@ -101,44 +73,6 @@ fn widest(space: &Space, groups: &[Peak]) -> Option<u8>
     found
 }
 
-/// Whether the range has the number.
-fn has(range: &Range, number: &i64) -> bool
-    ensures { result ≡ is_in range.now number.now }
-{
-    range.low <= *number && *number <= range.high
-}
-
-/// How many candidates the range has.
-fn count_in(list: &[i64], range: &Range, most: usize) -> usize
-    requires { most ≡ length list.now }
-    ensures { result ≡ length (in_range range.now list.now) }
-{
-    let mut count = 0;
-    for place in 0..most {
-        if has(range, &list[place]) {
-            count += 1;
-        }
-    }
-    count
-}
-
-/// The candidate at this place among those of the range.
-fn pick(list: &[i64], range: &Range, place: usize) -> i64
-    requires { place < length (in_range range.now list.now) }
-    ensures { result ≡ number_at (in_range range.now list.now) place }
-{
-    let mut left = place;
-    for candidate in list {
-        if has(range, candidate) {
-            if left == 0 {
-                return *candidate;
-            }
-            left -= 1;
-        }
-    }
-    0
-}
-
 /// Where a box is split, or None for a point, which isn't split any more. The first total whose range has the end of a tier strictly inside is
 /// split at the lowest such end; `energy` has the tables of the tiered periods. Else the group whose demand charge differs most between the
 /// ends of its range is split, the first of equals, at the candidate in the middle of its range. Our own rule.
@@ -159,11 +93,8 @@ pub fn split_of(
         return Some(split);
     }
     let group = widest(space, groups)?;
-    let list = candidates.list(group);
-    let range = &space.peaks[group as usize];
-    let place = (count_in(list, range, list.len()) - 1) / 2;
     Some(Split::Peak {
         group,
-        at: pick(list, range, place),
+        at: middle_in(candidates.list(group), &space.peaks[group as usize]),
     })
 }

@@ -5,7 +5,7 @@ ghost use Rattle.std.specs.List.{All};
 ghost use Rattle.d_num.specs.Amount.{IsWithin, IsRate};
 ghost use Rattle.std.specs.Int.{int_max, int_min};
 ghost use Rattle.d_tier.specs.Tables.{IsLowestPrice, IsHighestPrice};
-ghost use Rattle.d_box.specs.Trials.{HasEnergyPrices, ends_by, holding, low_slope, quarters, shifted, moved, IsTrial, AreFirst};
+ghost use Rattle.d_box.specs.Trials.{HasEnergyPrices, low_slope, quarters, shifted, moved, IsTrial, AreFirst};
 
 use crate::slopes::Slopes;
 use crate::space::Space;
@@ -77,34 +77,10 @@ fn slope_at(space: &Space, energy: &[Tiers], index: usize) -> Rate
 {
     if index < energy.len() {
         let tiers = &energy[index];
-        tiers.price(holding_tier(tiers, &space.totals[index].low))
+        tiers.price(tiers.holding(space.totals[index].low))
     } else {
         Rate::new(0).unwrap()
     }
-}
-
-/// Whether a tier ends at an amount or below it.
-fn ends_at_most(end: Option<i64>, amount: &i64) -> bool
-    ensures { result ≡ ends_by end amount.now }
-{
-    match end {
-        Some(end) => end <= *amount,
-        None => false,
-    }
-}
-
-/// The tier that holds an amount.
-fn holding_tier(tiers: &Tiers, amount: &i64) -> usize
-    ensures value { result ≡ holding tiers.now amount.now }
-    ensures inside { result < length tiers.now }
-{
-    let last = tiers.count() - 1;
-    for tier in 0..last {
-        if !ends_at_most(tiers.end(tier), amount) {
-            return tier;
-        }
-    }
-    last
 }
 
 /// A slope moved by a step, and kept from the spread below the lowest price to the spread above the highest.

@@ -1,5 +1,4 @@
-use Rattle.std.proofs.Common.{rules, ◌≡◌, List, subst, sym, pos, ◌+◌, ◌*◌}
-use Rattle.d_num.specs.Amount.{IsWithin}
+use Rattle.std.proofs.Common.{rules, ◌≡◌, List, subst, pos}
 use Rattle.d_tier.specs.declared.tier.Tier.{Tier}
 use Rattle.d_tier.specs.Tables.{AreTiersFrom}
 use Rattle.d_tier.specs.Gaps.{least_gap}
