@@ -4,5 +4,9 @@ pub mod Caps
 pub mod Roots
 pub mod Nodes
 pub mod Bounders
+pub mod CapSteps
+pub mod SlopeSteps
+pub mod BoundSteps
+pub mod RootSteps
 pub mod BoxLaws
 pub mod Law

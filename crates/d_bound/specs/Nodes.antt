@@ -37,9 +37,13 @@ box_arcs i space slopes = plan_arcs i (is_capped i space) (rates_of i slopes.rat
 abbrev pub box_schedule : Inputs → Space → Slopes → Option (List ℕ)
 box_schedule i space slopes = cheapest_of (box_arcs i space slopes)
 
--- what the groups charge at the low ends of their ranges
+-- what a group charges at the low end of its range
+abbrev pub low_charge : Inputs → Space → ℕ → ℤ
+low_charge i space group = demand_charge (slice_get i.peaks group) (range_at space.peaks group).low
+
+-- what all groups charge there
 abbrev pub low_charges : Inputs → Space → ℤ
-low_charges i space = sum_of_first (length i.peaks) (λ group. demand_charge (slice_get i.peaks group) (range_at space.peaks group).low)
+low_charges i space = sum_of_first (length i.peaks) (low_charge i space)
 
 -- by how much the charges of the tiered periods are more than their imports at the slopes, at the least that their ranges allow
 abbrev pub low_gaps : Inputs → Space → Slopes → ℤ

@@ -1,11 +1,11 @@
 //! The first cheapest schedule of a problem, found over the ways of its battery's modes.
 
-ghost use Rattle.std.specs.Prelude.{◌≡◌, ℤ, ◌*◌, List, [], ◌<◌, length, map, IfOk};
+ghost use Rattle.std.specs.Prelude.{◌≡◌, [], length, IfOk};
 ghost use Rattle.d_bill.specs.Slopes.{rates_of};
 ghost use Rattle.d_path.specs.Arcs.{arcs_of, intervals_of, IsSound};
 ghost use Rattle.d_path.specs.Days.{FitsDays};
-ghost use Rattle.d_bound.specs.PlanWays.{all_powers, mode_costs, move_of, plan_arcs, IsFoundWay, IsFoundLeast};
-ghost use Rattle.d_bound.specs.Bounders.{AreLayersOf, IsFoundFirst};
+ghost use Rattle.d_bound.specs.PlanWays.{IsFoundWay, IsFoundLeast};
+ghost use Rattle.d_bound.specs.Bounders.{AreLayersOf, IsFoundFirst, levels_in, arcs_over};
 
 use crate::costs::{costs_of, moves_of};
 use crate::rates::prices_of;
@@ -27,7 +27,7 @@ pub fn cheapest_schedule(alloc: Global, problem: &Problem) -> Result<Option<Vec<
     let costs = costs_of(alloc, problem, rates.as_slice())?;
     let moves = moves_of(alloc, problem.battery().modes.as_slice())?;
     let mut layers = layers_of(alloc, problem)?;
-    let ways = ways_of(problem, costs.as_slice(), moves.as_slice());
+    let ways = ways_over(levels_of(problem), costs.as_slice(), moves.as_slice());
     let intervals = problem.intervals();
     first_way(alloc, &ways, intervals, &mut layers)
 }
@@ -83,19 +83,42 @@ pub(crate) fn layers_of(alloc: Global, problem: &Problem) -> Result<DayLayers, N
     DayLayers::make(alloc, days, per_day, levels)
 }
 
-/// The ways of a problem, where its modes cost this much and move the level like this.
-pub(crate) fn ways_of<'a>(problem: &Problem, costs: &'a [Packed], moves: &'a [Move]) -> Ways<'a>
-    requires moves { moves.now ≡ map move_of problem.now.storage.modes }
-    ensures ways { (rates : List ℤ) → costs.now ≡ mode_costs problem.now all_powers rates → arcs_of result ≡ plan_arcs problem.now all_powers rates }
-    ensures start { result.start ≡ problem.now.storage.start }
+/// The levels of a battery, in steps.
+#[derive(Clone, Copy)]
+pub(crate) struct Levels {
+    /// The least.
+    pub floor: u8,
+    /// The greatest.
+    pub capacity: u8,
+    /// Where it starts.
+    pub start: u8,
+    /// The least at which it may end.
+    pub end: u8,
+}
+
+/// The levels of the problem's battery.
+pub(crate) fn levels_of(problem: &Problem) -> Levels
+    ensures { result ≡ levels_in problem.now }
 {
     let battery = problem.battery();
-    Ways {
-        costs,
-        moves,
+    Levels {
         floor: battery.floor,
         capacity: battery.capacity,
         start: battery.start,
         end: battery.end,
+    }
+}
+
+/// The ways at these costs, by these moves, between these levels.
+pub(crate) fn ways_over<'a>(levels: Levels, costs: &'a [Packed], moves: &'a [Move]) -> Ways<'a>
+    ensures { arcs_of result ≡ arcs_over levels costs.now moves.now }
+{
+    Ways {
+        costs,
+        moves,
+        floor: levels.floor,
+        capacity: levels.capacity,
+        start: levels.start,
+        end: levels.end,
     }
 }

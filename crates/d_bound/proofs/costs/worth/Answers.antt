@@ -2,8 +2,8 @@ use Rattle.std.proofs.Common.{◌≡◌, ◌*◌, ◌^◌, ◌*ℤ◌, ◌∙◌
 use Rattle.std.proofs.lemmas.Int.{to_z-of_z}
 use Rattle.d_num.specs.Amount.{IsWithin}
 use Rattle.d_num.proofs.Products.{product_within}
-use Rattle.d_bound.proofs.least.worth.Goals as goal
-use Rattle.d_bound.proofs.least.worth.Goals.{After-times}
+use Rattle.d_bound.proofs.costs.worth.Goals as goal
+use Rattle.d_bound.proofs.costs.worth.Goals.{After-times}
 
 -- the product is that of the rate and the amount
 worth_is : (c : After-times) → c.times.result ≡ c.args.rate *ℤ c.args.amount

@@ -1,7 +1,7 @@
 use Rattle.std.proofs.Common.{◌≡◌, map}
 use Rattle.std.specs.List.{range_with_len}
 use Rattle.d_bound.specs.PlanWays.{all_powers, cost_at}
-use Rattle.d_bound.proofs.least.costs_of.Given as goal
+use Rattle.d_bound.proofs.costs.costs_of.Given as goal
 
 -- the costs so far
 abbrev pub invariant-loop-place : goal.invariant-loop-place

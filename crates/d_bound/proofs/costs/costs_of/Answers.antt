@@ -3,7 +3,7 @@ use Rattle.std.proofs.Math.Path.{ap₂}
 use Rattle.d_batt.specs.Storage.{Storage}
 use Rattle.d_bound.specs.PlanWays.{all_powers}
 use Rattle.d_bound.proofs.PlanArcs.{costs_more, costs_all}
-use Rattle.d_bound.proofs.least.costs_of.Goals as goal
+use Rattle.d_bound.proofs.costs.costs_of.Goals as goal
 
 pub loop-place-preserved : goal.loop-place-preserved
 loop-place-preserved c =
