@@ -17,16 +17,9 @@ use Rattle.d_bill.specs.Slopes.{rates_of}
 use Rattle.d_bound.specs.declared.bounder.Bounder.{Bounder}
 use Rattle.d_bound.specs.declared.least.Levels.{Levels}
 use Rattle.d_path.specs.declared.ways.Move.{Move}
-use Rattle.d_bound.specs.PlanWays.{all_powers, mode_costs, move_of}
+use Rattle.d_bound.specs.PlanWays.{all_powers, mode_costs, move_of, plan_arcs}
 use Rattle.d_bound.specs.Caps.{is_capped}
 use Rattle.d_bound.specs.Roots.{AreCandidates}
-
--- layers for the days of a month and the levels of its battery
-pub record AreLayersOf (i : Inputs) (r : DayRows) : Type 0 where
-  pub some_day : 1 < length r.kept
-  pub intervals : (length r.kept - 1) * per_day_of r ≡ length i.net
-  pub kept_wide : IsWide i.storage.floor i.storage.capacity r.kept
-  pub window_wide : IsWide i.storage.floor i.storage.capacity r.window
 
 -- the power of an arc; 0 where there is none
 abbrev pub power_in : Option Arc → ℤ
@@ -48,6 +41,10 @@ free_costs i = mode_costs i all_powers (rates_of i [])
 -- what it costs within the caps of a box
 abbrev pub capped_costs : Inputs → Space → List Pot
 capped_costs i space = mode_costs i (is_capped i space) (rates_of i [])
+
+-- layers for the days of a month and the levels of its battery
+abbrev pub AreLayersOf : Inputs → DayRows → Type 0
+AreLayersOf i r = FitsDays (plan_arcs i all_powers (rates_of i [])) r
 
 -- the greatest power that is within the caps of an interval, of those up to 10^13 W
 abbrev pub IsCapOf : Inputs → Space → ℕ → ℤ → Type 0

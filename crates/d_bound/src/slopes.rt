@@ -1,6 +1,6 @@
 //! The slopes of a box.
 
-ghost use Rattle.std.specs.Prelude.{◌≡◌, option_map};
+ghost use Rattle.std.specs.Prelude.{◌≡◌, length, option_map};
 ghost use Rattle.d_bound.specs.SlopeSteps.{untiered_slopes};
 
 use d_box::{Slopes, Space, trial};
@@ -15,5 +15,13 @@ pub(crate) fn first_slopes(space: &Space, parent: Option<&Slopes>) -> Slopes
         rates: [Rate::new(0).unwrap(); 36],
     };
     trial(space, &[], parent, 0, &mut slopes);
+    // shows how many rates there are
+    show_count(&slopes.rates);
     slopes
 }
+
+/// Shows how many rates there are.
+fn show_count(rates: &[Rate])
+    requires { length rates.now ≡ 36 }
+    ensures { length rates.now ≡ 36 }
+{}
