@@ -3,3 +3,4 @@ mod PlanArcs
 mod PlanSteps
 mod FeasibleWays
 pub mod LeastWays
+pub mod ChoiceFacts
