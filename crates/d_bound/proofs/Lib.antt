@@ -4,3 +4,4 @@ mod PlanSteps
 mod FeasibleWays
 pub mod LeastWays
 pub mod ChoiceFacts
+pub mod TrialFacts

@@ -6,4 +6,4 @@ mod ChargeFacts
 pub mod LeastFacts
 mod GapFacts
 pub mod JoinFacts
-mod RiseFacts
+pub mod RiseFacts
