@@ -5,3 +5,6 @@ mod FeasibleWays
 pub mod LeastWays
 pub mod ChoiceFacts
 pub mod TrialFacts
+mod SumFacts
+mod CapFacts
+mod BoxFacts
