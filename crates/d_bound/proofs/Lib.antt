@@ -8,3 +8,5 @@ pub mod TrialFacts
 mod SumFacts
 mod CapFacts
 mod BoxFacts
+mod CandidateFacts
+mod RootFacts

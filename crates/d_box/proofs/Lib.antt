@@ -1,6 +1,6 @@
 pub mod HalfFacts
 pub mod CombinationFacts
-mod ListFacts
+pub mod ListFacts
 mod FoundFacts
 mod SizeFacts
 mod SplitFacts
