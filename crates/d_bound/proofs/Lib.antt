@@ -10,3 +10,4 @@ mod CapFacts
 mod BoxFacts
 mod CandidateFacts
 mod RootFacts
+mod NodeFacts

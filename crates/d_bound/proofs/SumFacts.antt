@@ -47,3 +47,12 @@ greatest_reached (suc n) f = by_last (greatest_of_first n f) (which (greatest_of
     by_last before (inr last) earlier = inr (record { place = n; inside = omega arith; is = last })
     by_last before (inl kept) (inl none) = inl (rw kept none)
     by_last before (inl kept) (inr term) = inr (record { place = term.place; inside = omega (arith, term.inside); is = rw kept term.is })
+
+-- where no term is above a limit from 0 up, the greatest isn't
+pub greatest_below : (n : ℕ) (f : ℕ → ℤ) (most : ℤ) → pos 0 ≤ℤ most → ((k : ℕ) → k < n → f k ≤ℤ most) → greatest_of_first n f ≤ℤ most
+unfolding greatest_of_first
+greatest_below zero f most low each = low
+greatest_below (suc n) f most low each =
+    let before = greatest_below n f most low (λ k below. each k (omega arith)) in
+    let last = each n (omega arith) in
+    omega (arith, ints, clamps)
