@@ -7,7 +7,8 @@ pub mod ChoiceFacts
 pub mod TrialFacts
 mod SumFacts
 mod CapFacts
-mod BoxFacts
+pub mod BoxFacts
 mod CandidateFacts
-mod RootFacts
-mod NodeFacts
+pub mod RootFacts
+pub mod NodeFacts
+pub mod SizeFacts

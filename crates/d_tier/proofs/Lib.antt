@@ -2,7 +2,7 @@ mod PriceFacts
 mod TableFacts
 pub mod TableGrows
 mod EndFacts
-mod ChargeFacts
+pub mod ChargeFacts
 pub mod LeastFacts
 mod GapFacts
 pub mod JoinFacts
