@@ -1,17 +1,17 @@
 pub mod Deciding
-mod Values
+pub mod Values
 mod RangeFacts
 mod PartFacts
 mod TierFacts
-mod SlopeFacts
-mod TieredFacts
+pub mod SlopeFacts
+pub mod TieredFacts
 pub mod LeastFacts
-mod CountFacts
-mod SizeFacts
+pub mod CountFacts
+pub mod SizeFacts
 pub mod RuleFacts
-mod WalkFacts
-mod ChargeFacts
-mod BoundFacts
+pub mod WalkFacts
+pub mod ChargeFacts
+pub mod BoundFacts
 pub mod Laws
 mod ModeNames
 mod ScheduleRows

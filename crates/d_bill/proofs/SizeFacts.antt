@@ -94,7 +94,7 @@ month_credit i x fine tallied =
     fits n read credit e a d = (omega (arith, ints, a.0), omega (arith, ints, a.1))
 
 -- the power of an import, by the three lengths of an interval
-power_small : (minutes : ℕ) (flow : ℤ) → IsReadingLength minutes → IsWithin (2 * 10 ^ 9) flow → power_of minutes flow ≤ℤ pos (8 * 10 ^ 9)
+pub power_small : (minutes : ℕ) (flow : ℤ) → IsReadingLength minutes → IsWithin (2 * 10 ^ 9) flow → power_of minutes flow ≤ℤ pos (8 * 10 ^ 9)
 power_small minutes flow pace small = by_import minutes (import_of flow) (cases minutes pace) (import_small flow small)
   where
     cases : (minutes : ℕ) → IsReadingLength minutes → (minutes ≡ 15) ⊎ ((minutes ≡ 30) ⊎ (minutes ≡ 60))

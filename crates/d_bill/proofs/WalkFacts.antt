@@ -13,7 +13,7 @@ use Rattle.d_bill.specs.Schedules.{KeepsRules, KeepsAt, IsFeasible, IsFirstBreak
 use Rattle.d_bill.specs.Totals.{Tallied, tally_to, IsTalliedTo}
 
 -- what a mode adds to a reading is small, also where there is no such mode
-grid_small : (i : Inputs) (number : ℕ) → IsInRange i → IsWithin (10 ^ 9) (grid_of i number)
+pub grid_small : (i : Inputs) (number : ℕ) → IsInRange i → IsWithin (10 ^ 9) (grid_of i number)
 grid_small i number fine = by_mode (slice_get i.storage.modes number) refl
   where
     by_mode : (found : Option Mode) → slice_get i.storage.modes number ≡ found → IsWithin (10 ^ 9) (grid_of i number)

@@ -5,6 +5,15 @@ mod FeasibleWays
 mod SlopeFacts
 mod PowerFacts
 mod CapSums
-mod RootFacts
+mod DrawnFacts
 mod LayerFacts
 pub mod LeastWays
+pub mod ChoiceFacts
+pub mod TrialFacts
+mod SumFacts
+mod CapFacts
+pub mod BoxFacts
+mod CandidateFacts
+pub mod RootFacts
+pub mod NodeFacts
+pub mod SizeFacts

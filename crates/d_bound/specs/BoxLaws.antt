@@ -1,6 +1,6 @@
 -- What holds of the boxes of all problems in which no period is tiered. All of it is our own rule.
-use Rattle.std.specs.Prelude.{◌≡◌, ◌⊎◌, ⊤, ℕ, ℤ, ◌≤ℤ◌, ◌^◌, List, [], Option, Some, None, MatchOption}
-use Rattle.d_num.specs.Amount.{IsWithin}
+use Rattle.std.specs.Prelude.{◌≡◌, ◌⊎◌, ⊤, ℕ, ℤ, ◌≤ℤ◌, ◌^◌, List, [], Option, Some, None, MatchOption, All}
+use Rattle.d_num.specs.Amount.{IsWithin, IsWatt}
 use Rattle.d_list.specs.Order.{IsNotAfter}
 use Rattle.d_box.specs.declared.space.Space.{Space}
 use Rattle.d_box.specs.declared.space.Split.{Split}
@@ -103,8 +103,12 @@ PointsMeet =
     (i : Inputs) (lists : List (List ℤ)) (space : Space) (parent : Option Slopes) → IsUntiered i → IsProblemBox lists space
     → IsPoint space (tiered_tables i) i.peaks → IsAtMost (node_of i space parent).bill (node_of i space parent).bound
 
+-- the floor of each group is a power
+abbrev pub HasFloors : Inputs → Type 0
+HasFloors i = All (λ peak. IsWatt peak.floor) i.peaks
+
 -- relaxed values are at most 10^15 USD in size
 abbrev pub RelaxedAreSmall : Type 0
 RelaxedAreSmall =
-    (i : Inputs) (lists : List (List ℤ)) (space : Space) (slopes : Slopes) (value : ℤ) → IsUntiered i → AreCandidates i lists
+    (i : Inputs) (lists : List (List ℤ)) (space : Space) (slopes : Slopes) (value : ℤ) → IsUntiered i → HasFloors i → AreCandidates i lists
     → IsProblemBox lists space → relaxed_value i space slopes ≡ Some value → IsWithin (10 ^ 36) value

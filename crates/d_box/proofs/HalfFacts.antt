@@ -11,7 +11,7 @@ use Rattle.d_box.specs.Candidates.{list_at, IsRangeOf}
 use Rattle.d_box.specs.Halves.{SplitsAreCuts, IsPeakCover, IsTotalCover, AreWithin, AreBoxes, AreHalvesEnds}
 
 -- what is true of each range, after one was written
-written : (P : ℕ → Range → Type 0) (ranges : List Range) (k : ℕ) (r : Range) → k < length ranges → P k r → ((i : ℕ) → P i (range_at ranges i)) → (i : ℕ) → P i (range_at (slice_set ranges k r) i)
+pub written : (P : ℕ → Range → Type 0) (ranges : List Range) (k : ℕ) (r : Range) → k < length ranges → P k r → ((i : ℕ) → P i (range_at ranges i)) → (i : ℕ) → P i (range_at (slice_set ranges k r) i)
 written P ranges k r lt here others i = elim (cases_eq k i) [
   | inl e ↦ subst (λ (j : ℕ). P j (range_at (slice_set ranges k r) j)) e (subst (λ (q : Range). P k q) (sym (get_or-set_same ranges k r nothing lt)) here)
   | inr ne ↦ subst (λ (q : Range). P i q) (sym (get_or-set_other ranges k i r nothing (λ e. ne (sym e)))) (others i)
@@ -136,7 +136,7 @@ cuts space energy groups candidates (Peak group at) box few_totals few_groups lo
     (inside group (length groups) (length space.peaks) 37 split.widest.inside few_groups box.peaks_long, subst (λ n. group < n) (sym long) split.widest.inside, split.cut.cut)
 
 -- an end of a range is one of the candidates
-ends_are : (candidates : List ℤ) (range : Range) (at above : ℤ) → IsPeakCut candidates range at above → IsRangeOf candidates range
+pub ends_are : (candidates : List ℤ) (range : Range) (at above : ℤ) → IsPeakCut candidates range at above → IsRangeOf candidates range
     → Contains candidates range.low × Contains candidates range.high
 ends_are candidates range at above cut range_of = elim range_of.ends [
   | inl both ↦ both

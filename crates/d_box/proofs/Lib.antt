@@ -1,6 +1,6 @@
 pub mod HalfFacts
 pub mod CombinationFacts
-mod ListFacts
+pub mod ListFacts
 mod PlaceFacts
 mod FoundFacts
 mod SizeFacts

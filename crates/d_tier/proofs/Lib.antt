@@ -2,8 +2,8 @@ mod PriceFacts
 mod TableFacts
 pub mod TableGrows
 mod EndFacts
-mod ChargeFacts
+pub mod ChargeFacts
 pub mod LeastFacts
 mod GapFacts
 pub mod JoinFacts
-mod RiseFacts
+pub mod RiseFacts
