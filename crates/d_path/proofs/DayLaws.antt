@@ -1,4 +1,4 @@
--- Layers as they are made.
+-- Layers as they are made, and after a day is filled.
 use Rattle.std.proofs.Common.{◌≡◌, ◌+◌, ◌-◌, ◌*◌, ◌<◌, ℕ, List, length, replicate, ap, sym, subst, ◌∙◌, arith}
 use Rattle.std.proofs.lemmas.List.{length-replicate}
 use Rattle.std.proofs.lemmas.List.Elements.{All-replicate}
@@ -7,7 +7,8 @@ use Rattle.d_num.specs.declared.pot.Pot.TheVariants.{NoWay}
 use Rattle.d_rows.specs.Days.{DayRows}
 use Rattle.d_path.specs.Arcs.{Arcs, intervals_of}
 use Rattle.d_path.specs.Cheapest.{IsWide}
-use Rattle.d_path.specs.Days.{FitsDays}
+use Rattle.d_path.specs.Days.{FitsDays, AreKeptCheapest}
+use Rattle.d_path.proofs.DayWalks.{walk_kept}
 
 rows_wide : (a : Arcs) (count levels : ℕ) (rows : List (List Pot)) → a.floor + levels ≡ a.capacity + 1 → rows ≡ replicate count (replicate levels NoWay) → IsWide a.floor a.capacity rows
 rows_wide a count levels rows wide is =
@@ -28,3 +29,7 @@ made_fits a r days per_day levels some_day some_interval all wide kept window =
       kept_wide = rows_wide a (days + 1) levels r.kept wide kept;
       window_wide = rows_wide a (per_day - 1) levels r.window wide window;
     }
+
+-- where the kept rows stay, and as many intervals a day, they still have their least costs
+pub kept_stay : (a : Arcs) (old r : DayRows) → AreKeptCheapest a old → r.kept ≡ old.kept → length r.window ≡ length old.window → AreKeptCheapest a r
+kept_stay a old r all kept long d lt = walk_kept a d old r all kept long lt

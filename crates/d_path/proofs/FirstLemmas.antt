@@ -1,17 +1,15 @@
 -- The first cheapest way, walked from the start.
-use Rattle.std.proofs.Common.{◌≡◌, ◌≢◌, ◌+◌, ◌≤◌, ◌<◌, ◌++◌, ℕ, List, [], ◌∷◌, length, take, Option, Some, inl, inr, ap, sym, subst, ◌∙◌, arith, append_assoc, slice_index_or, slice_set, option_and_then}
-use Rattle.std.proofs.lemmas.List.{append-nil, take_all, take_more_set}
+use Rattle.std.proofs.Common.{◌≡◌, ◌≢◌, ◌+◌, ◌<◌, ℕ, List, length, Option, Some, inl, inr, ap, sym, subst, ◌∙◌, slice_index_or, option_and_then}
 use Rattle.std.proofs.lemmas.Option.{slice_get-get_or}
 use Rattle.d_num.specs.declared.pot.Pot.{Pot}
 use Rattle.d_num.specs.declared.pot.Pot.TheVariants.{NoWay}
 use Rattle.d_num.specs.Pot.{AtMost, joined}
 use Rattle.d_path.specs.declared.ways.Move.{Move}
-use Rattle.d_path.specs.Arcs.{Arcs, next_level, level_after, intervals_of, along, way_cost, IsSound}
-use Rattle.d_path.specs.Cheapest.{IsCheapest, HasCheapest, HasWay, IsFirstCheapest, entry}
+use Rattle.d_path.specs.Arcs.{Arcs, next_level, level_after, intervals_of, along, way_cost}
+use Rattle.d_path.specs.Cheapest.{IsCheapest, HasCheapest, HasWay, entry}
 use Rattle.d_path.specs.Best.{IsFirstPlace, IsFirstBest, IsFirstMove, AreCostsAt, cost_by}
 use Rattle.d_path.proofs.CostLemmas.{NoWay-AtMost, along_there, joined-NoWay}
-use Rattle.d_path.proofs.WayLemmas.{level_after_in}
-use Rattle.d_path.proofs.StepLemmas.{first_step, first_end}
+use Rattle.d_path.proofs.StepLemmas.{first_step}
 
 -- where a way is there, the least cost is one
 pub way_there : (a : Arcs) (t level : ℕ) (p : Pot) → HasWay a t level → IsCheapest a t level p → p ≢ NoWay

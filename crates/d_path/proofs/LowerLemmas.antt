@@ -1,9 +1,9 @@
 -- A row lowered move by move.
-use Rattle.std.proofs.Common.{◌≡◌, ◌≢◌, ◌⊎◌, ◌+◌, ◌-◌, ◌≤◌, ◌<◌, ℕ, List, length, Option, None, inl, inr, ap, sym, subst, ◌∙◌, refl, arith, slice_index_or, slice_set}
+use Rattle.std.proofs.Common.{◌≡◌, ◌≢◌, ◌+◌, ◌-◌, ◌≤◌, ◌<◌, ℕ, List, length, Option, None, inl, inr, ap, sym, subst, ◌∙◌, refl, arith, slice_index_or, slice_set}
 use Rattle.std.proofs.lemmas.List.{get_or-set_same, get_or-set_other, get_or_default, length-set}
 use Rattle.d_num.specs.declared.pot.Pot.{Pot}
 use Rattle.d_num.specs.declared.pot.Pot.TheVariants.{NoWay}
-use Rattle.d_num.specs.Pot.{AtMost, joined}
+use Rattle.d_num.specs.Pot.{joined}
 use Rattle.d_path.specs.declared.ways.Move.{Move}
 use Rattle.d_path.specs.Arcs.{Arcs, next_level, along, intervals_of}
 use Rattle.d_path.specs.Cheapest.{entry, HasCheapest}
@@ -82,13 +82,6 @@ pub lands : (a : Arcs) (move : Move) (from to count i size : ℕ) → IsSpan a m
 lands a move from to count i size span lt wide =
     let in_range = next_level_in a (a.floor + (from + i)) move (a.floor + (to + i)) (span.leads i lt) in
     omega (arith, in_range.1)
-
--- the lesser of two costs that the code read
-pub lesser_read : (xs ys : List Pot) (i j : ℕ) (cost p q r : Pot) → i < length xs → p ≡ slice_index_or xs i p → j < length ys → q ≡ slice_index_or ys j q → (r ≡ p) ⊎ (r ≡ joined cost q) → AtMost r p → AtMost r (joined cost q) → IsLesser (slice_index_or xs i NoWay) (joined cost (slice_index_or ys j NoWay)) r
-lesser_read xs ys i j cost p q r lt is lt' is' one first second =
-    subst (λ (c : Pot). IsLesser c (joined cost (slice_index_or ys j NoWay)) r) (is ∙ get_or_default xs i p NoWay lt)
-    (subst (λ (c : Pot). IsLesser p (joined cost c) r) (is' ∙ get_or_default ys j q NoWay lt')
-    (record { one_of_both = one; below_first = first; below_second = second }))
 
 -- one more move
 pub least_lowered : (a : Arcs) (costs next row new : List Pot) (k : ℕ) (cost e : Pot) (d : Move) → AreLeastOf a costs next row k → k < length a.moves → length costs ≡ length a.moves → slice_index_or costs k e ≡ cost → length new ≡ length row → IsLowered a (slice_index_or a.moves k d) cost next row new → AreLeastOf a costs next new (k + 1)

@@ -1,14 +1,14 @@
 -- Rows of least costs, column by column and row by row.
-use Rattle.std.proofs.Common.{◌≡◌, ◌+◌, ◌-◌, ◌≤◌, ◌<◌, ◌^◌, ℕ, suc, pos, List, [], length, cond, nat_le, ◌==◌, ◌&&◌, ap, sym, subst, ◌∙◌, refl, arith, inl, inr, ◌≢◌, ◌++◌, Vec, Global, slice_index_or, slice_set}
+use Rattle.std.proofs.Common.{◌≡◌, ◌+◌, ◌-◌, ◌≤◌, ◌<◌, ◌^◌, ℕ, pos, List, [], length, cond, nat_le, ◌==◌, ◌&&◌, sym, subst, ◌∙◌, arith, inl, inr, ◌≢◌, slice_index_or, slice_set}
 use Rattle.std.specs.List.{All}
 use Rattle.std.proofs.lemmas.Bool.Decides.{nat_tests}
-use Rattle.std.proofs.lemmas.List.{get_or-set_same, get_or-set_other, length-set, get_or-map, length-map, set-append_left, map-set}
-use Rattle.std.proofs.lemmas.List.Elements.{All-from_get_or, All-set}
+use Rattle.std.proofs.lemmas.List.{get_or-set_same, get_or-set_other}
+use Rattle.std.proofs.lemmas.List.Elements.{All-from_get_or}
 use Rattle.d_num.specs.declared.pot.Pot.{Pot}
 use Rattle.d_num.specs.declared.pot.Pot.TheVariants.{To, NoWay}
 use Rattle.d_num.specs.Pot.{IsPotWithin}
 use Rattle.d_path.specs.Arcs.{Arcs, intervals_of, way_cost, IsSound}
-use Rattle.d_path.specs.Cheapest.{IsCheapest, HasCheapest, IsWide, entry}
+use Rattle.d_path.specs.Cheapest.{IsCheapest, HasCheapest, entry}
 use Rattle.d_path.proofs.WayLemmas.{cheapest_within}
 use Rattle.d_path.proofs.StepLemmas.{below?, cheapest_end}
 

@@ -130,14 +130,14 @@ sums_all a move cost next old new from to count i span wide done before =
     lowered_all a move (To cost) next (map shown old) (map shown new) from to count i span (omega arith) done before.lowered
 
 -- at first each sum is no way
-pub least_begun : (a : Arcs) (costs next : List Pot) (n : ℕ) → AreLeastSums a costs next (replicate n (pos (8 * 10 ^ 37))) 0
-least_begun a costs next n = record {
-  sums = All-replicate (λ (v : ℤ). neg_ℤ (pos (10 ^ 37)) ≤ℤ v) n (pos (8 * 10 ^ 37)) (omega (arith, ints));
+pub least_begun : (a : Arcs) (costs next : List Pot) (n : ℕ) (z : ℤ) → IsPacked z → shown z ≡ NoWay → AreLeastSums a costs next (replicate n z) 0
+least_begun a costs next n z packed none = record {
+  sums = All-replicate (λ (v : ℤ). neg_ℤ (pos (10 ^ 37)) ≤ℤ v) n z (elim (kept_cases z packed) [ inl one ↦ one.1.0 | inr past ↦ omega (arith, ints, past.1) ]);
   least = λ column lt.
-      let long : length (map shown (replicate n (pos (8 * 10 ^ 37)))) ≡ n = simp (length-map, length-replicate) in
+      let long : length (map shown (replicate n z)) ≡ n = simp (length-map, length-replicate) in
       let lt_n : column < n = omega arith in
-      let is : slice_index_or (map shown (replicate n (pos (8 * 10 ^ 37)))) column NoWay ≡ NoWay =
-      get_or-map shown (replicate n (pos (8 * 10 ^ 37))) column (pos 0) NoWay (omega (arith, length-replicate n (pos (8 * 10 ^ 37)))) ∙ ap shown (get_or-replicate n column (pos (8 * 10 ^ 37)) (pos 0) lt_n) in
+      let is : slice_index_or (map shown (replicate n z)) column NoWay ≡ NoWay =
+      get_or-map shown (replicate n z) column z NoWay (omega (arith, length-replicate n z)) ∙ ap shown (get_or-replicate n column z z lt_n) ∙ none in
       subst (λ (p : Pot). IsLeastOf (cost_by a costs next (a.floor + column)) 0 p) (sym is) (least_none (cost_by a costs next (a.floor + column)));
 }
 

@@ -1,11 +1,11 @@
 -- The least cost over all ways, the first way of that cost, and rows of least costs. All of it is our own rule.
-use Rattle.std.specs.Prelude.{ℕ, ◌+◌, ◌-◌, ◌≡◌, ◌≢◌, ◌≤◌, ◌⊎◌, List, [], length, slice_index_or}
+use Rattle.std.specs.Prelude.{ℕ, ◌+◌, ◌-◌, ◌≡◌, ◌≢◌, ◌≤◌, ◌⊎◌, List, length, slice_index_or}
 use Rattle.std.specs.List.{All}
 use Rattle.d_list.specs.Order.{IsNotAfter}
 use Rattle.d_num.specs.declared.pot.Pot.{Pot}
 use Rattle.d_num.specs.declared.pot.Pot.TheVariants.{NoWay}
 use Rattle.d_num.specs.Pot.{AtMost}
-use Rattle.d_path.specs.Arcs.{Arcs, way_cost, intervals_of}
+use Rattle.d_path.specs.Arcs.{Arcs, way_cost}
 
 -- no way from this level at interval t costs less than p, and p is NoWay or the cost of some way
 pub record IsCheapest (a : Arcs) (t level : ℕ) (p : Pot) : Type 0 where

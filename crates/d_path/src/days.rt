@@ -12,7 +12,10 @@ use crate::ways::Ways;
 use d_num::Pot;
 use d_rows::DayLayers;
 
-/// Makes the rows between the ends of this day the least costs at their intervals, where the row at its end has them.
+/// Makes the window the least costs inside this day, where the kept row at its end has those there. The kept rows stay.
+///
+/// Each entry becomes the least cost from its level at its interval to an allowed end, over all ways, or no way where none leads there.
+/// It takes no memory.
 pub fn fill_day(ways: &Ways, day: u32, layers: &mut DayLayers)
     requires sound { IsSound (arcs_of ways.now) }
     requires fits { FitsDays (arcs_of ways.now) layers.old }
@@ -62,8 +65,12 @@ fn fill_month_end(ways: &Ways, layers: &mut DayLayers)
     fill_last(ways, layers.last_mut());
 }
 
-/// Makes each kept row the least costs at the beginning of its day, and the last one those at the month's end. The window is
-/// written over. It takes no memory.
+/// Makes each kept row the least costs at the beginning of its day, and the last one those at the month's end: each entry is the least
+/// cost from its level to an allowed end, over all ways, or no way where none leads there. The window is written over.
+///
+/// The layers have a row for each day and one more, one column a level, and as many intervals a day as make up those of the ways. There
+/// are 1 to 64 moves and at most 10^4 intervals, and each cost is no way or at most 10^32 units in size, so no sum leaves the range of
+/// money. It takes no memory.
 pub fn backward_days(ways: &Ways, layers: &mut DayLayers)
     requires sound { IsSound (arcs_of ways.now) }
     requires fits { FitsDays (arcs_of ways.now) layers.old }
@@ -105,7 +112,7 @@ fn walk_day(ways: &Ways, day: u32, from: u8, layers: &DayLayers, schedule: &mut 
 }
 
 /// Whether a way leads from the start to an allowed end. If so the schedule becomes the numbers of the moves of the cheapest way,
-/// of several the first in the order of lists of numbers; else it stays as it was.
+/// of several the first in the order of lists of numbers; else it stays as it was. The kept rows stay in both cases.
 ///
 /// The kept rows are those that `backward_days` gave for these ways; the window is written over. The schedule has one entry an
 /// interval. It takes no memory.

@@ -1,4 +1,4 @@
-//! The least costs, layer by layer from the month's end.
+//! The least costs of one row from those of the row after it.
 
 ghost use Rattle.std.specs.Prelude.{◌≡◌, ◌+◌, ◌<◌, ◌≤◌, ◌^◌, [], length, map, slice_index_or};
 ghost use Rattle.std.specs.List.{All};
@@ -17,9 +17,6 @@ use crate::ways::{Move, Ways};
 use d_num::{Money, Pot};
 use d_rows::Packed;
 
-// The number of no way, at which each sum begins.
-const NO_WAY: i128 = 80_000_000_000_000_000_000_000_000_000_000_000_000;
-
 /// The most levels that there are.
 pub const LEVELS: usize = 256;
 
@@ -34,8 +31,8 @@ pub fn levels_of(ways: &Ways) -> usize
 
 /// Lowers each sum to the cost by a move, where that is less; the next row has what it costs after it.
 ///
-/// It is the inner loop of the whole search: one addition and one comparison a step. No way and a cost make a number that is still
-/// far above every cost, so nothing is tested here for no way.
+/// This is the inner loop of every pass: one addition and one comparison a step. The number of no way and a cost make one that is
+/// still far above every cost, so no step tests for no way.
 fn lower_sums(ways: &Ways, step: &Move, cost: Money, sums: &mut [i128], next: &[Packed])
     requires cost { IsWithin (10 ^ 32) cost }
     requires wide { ways.now.floor + length sums.old ≡ ways.now.capacity + 1 }
@@ -64,7 +61,7 @@ fn fill_sums(ways: &Ways, t: usize, sums: &mut [i128], next: &[Packed])
     ensures sums { AreSums sums.new }
     ensures cheapest { HasCheapest (arcs_of ways.now) t (map shown sums.new) }
 {
-    sums.fill(NO_WAY);
+    sums.fill(Packed::no_way().units());
     let costs = costs_at(ways, t);
     for (number, step) in ways.moves.iter().enumerate() {
         if let Pot::To(cost) = costs[number].get() {

@@ -1,6 +1,7 @@
-use Rattle.std.proofs.Common.{◌+◌, ◌≡◌, arith, length, pos, ap, List, map, subst, sym, ◌∙◌, ℤ, ◌*◌, ◌^◌, replicate}
-use Rattle.d_num.specs.declared.pot.Pot.{Pot}
-use Rattle.d_num.specs.declared.pot.Pot.TheVariants.{To, NoWay}
+use Rattle.std.proofs.Common.{◌+◌, ◌≡◌, arith, rules, length, pos, List, subst, sym, ◌∙◌, ℤ, replicate, FitsSigned}
+use Rattle.std.specs.Int.{w128}
+use Rattle.std.proofs.lemmas.Int.{to_z-of_z}
+use Rattle.d_num.specs.declared.pot.Pot.TheVariants.{To}
 use Rattle.d_path.specs.declared.ways.Move.{Move}
 use Rattle.d_path.specs.Arcs.{arcs_of}
 use Rattle.d_path.proofs.RowLemmas.{row_within}
@@ -14,8 +15,11 @@ lower_sums-requires-clause-next_within c = row_within (arcs_of c.args.ways.now) 
 pub loop-number-init : goal.loop-number-init
 loop-number-init c =
     let a = arcs_of c.args.ways.now in
-    let filled : c.fill.new.self ≡ replicate (length c.args.sums.now) (pos (8 * 10 ^ 37)) = c.fill.ensures.after (λ y e. e) in
-    subst (λ (sums : List ℤ). AreLeastSums a c.costs_at-costs.result.now c.args.next.now sums 0) (sym filled) (least_begun a c.costs_at-costs.result.now c.args.next.now (length c.args.sums.now))
+    let n = length c.args.sums.now in
+    let fits : FitsSigned w128 c.units.result = search rules in
+    let filled : c.fill.new.self ≡ replicate n c.units.result = simp to_z-of_z at (c.fill.ensures.after (λ y e. e)) in
+    subst (λ (sums : List ℤ). AreLeastSums a c.costs_at-costs.result.now c.args.next.now sums 0) (sym filled)
+    (least_begun a c.costs_at-costs.result.now c.args.next.now n c.units.result c.units.ensures.packed (c.units.ensures.shown ∙ c.no_way.ensures))
 
 pub loop-number-preserved : goal.loop-number-preserved
 loop-number-preserved c =

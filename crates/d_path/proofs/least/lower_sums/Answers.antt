@@ -1,11 +1,9 @@
-use Rattle.std.proofs.Common.{◌≡◌, ◌+◌, ◌^◌, ◌<◌, length, arith, rules, sym, subst, FitsSigned, ◌∙◌, ◌+ℤ◌, ℤ, pos, ap, slice_index_or}
+use Rattle.std.proofs.Common.{◌≡◌, ◌+◌, ◌<◌, length, arith, rules, FitsSigned, ◌∙◌, ◌+ℤ◌, ℤ, pos, ap, slice_index_or}
 use Rattle.std.specs.Int.{w128, int_min}
 use Rattle.std.proofs.lemmas.List.{get_or_default}
 use Rattle.d_num.specs.declared.pot.Pot.TheVariants.{NoWay}
 use Rattle.d_rows.specs.Packed.{shown}
 use Rattle.std.proofs.lemmas.Int.{to_z-of_z}
-use Rattle.d_num.specs.declared.pot.Pot.{Pot}
-use Rattle.d_num.specs.Pot.{IsPotWithin}
 use Rattle.d_path.specs.Arcs.{arcs_of}
 use Rattle.d_path.proofs.LowerLemmas.{lands}
 use Rattle.d_path.proofs.SumLemmas.{sums_more, sums_all}
