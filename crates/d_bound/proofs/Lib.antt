@@ -7,6 +7,9 @@ mod PowerFacts
 mod CapSums
 mod DrawnFacts
 mod LayerFacts
+mod LowFacts
+mod WayFacts
+mod DayFacts
 pub mod LeastWays
 pub mod ChoiceFacts
 pub mod TrialFacts

@@ -1,14 +1,14 @@
 //! The bound and the bill of a box.
 
 ghost use Rattle.std.specs.Prelude.{◌≡◌, ◌+ℤ◌, ◌^◌, ◌<◌, ◌*◌, length};
-ghost use Rattle.d_num.specs.Amount.{IsWithin};
+ghost use Rattle.d_num.specs.Amount.{IsWithin, IsWatt};
 ghost use Rattle.d_bill.specs.Schedules.{IsFeasible};
 ghost use Rattle.d_bill.specs.Bills.{bill_of, raised};
 ghost use Rattle.d_bound.specs.Nodes.{low_charge, low_charges};
 ghost use Rattle.d_bound.specs.BoundSteps.{ArePeaksInRange};
 
 use d_bill::{Problem, Tally};
-use d_box::Space;
+use d_box::{Range, Space};
 use d_num::{Money, Watt};
 
 /// The bound of a box whose first cheapest schedule's energy costs this much, where no period is tiered: the fixed charge, the groups'
@@ -48,8 +48,15 @@ fn low_charge(problem: &Problem, space: &Space, group: usize) -> Money
     let peak = &problem.groups()[group];
     // shows the floor's range
     let _floor = peak.floor.value();
-    let low = space.peaks[group].low;
-    peak.charge(Watt::new(low).unwrap())
+    peak.charge(low_end(&space.peaks[group]))
+}
+
+/// The low end of a range of powers.
+fn low_end(range: &Range) -> Watt
+    requires { IsWatt range.now.low }
+    ensures { result ≡ range.now.low }
+{
+    Watt::new(range.low).unwrap()
 }
 
 /// The bill of a feasible schedule.

@@ -1,11 +1,12 @@
-use Rattle.std.proofs.Common.{rules, ◌≡◌, ◌+ℤ◌, ◌^◌, ◌<◌, ◌*◌, length, ℕ, ◌+◌, ◌-◌, ◌≤◌, ◌/◌, ◌%◌, Bool, true, false, nat_eq, nat_lt, List, [], ◌∷◌, ◌++◌, slice_index_or, slice_set, bit_and, bit_or, Fits, w8, w32, w64, Bor, MutBor, ℤ, pos, ◌-ℤ◌, ◌*ℤ◌, ◌≤ℤ◌, ◌<ℤ◌, FitsSigned, to_z, of_z}
-use Rattle.d_num.specs.Amount.{IsWithin}
-use Rattle.d_bill.specs.Schedules.{IsFeasible}
-use Rattle.d_bill.specs.Bills.{bill_of, raised}
-use Rattle.d_bound.specs.Nodes.{low_charge, low_charges}
-use Rattle.d_bound.specs.BoundSteps.{ArePeaksInRange}
+use Rattle.std.proofs.Common.{rules, ◌≡◌, ◌*◌, ◌^◌, ◌<◌, List, length, All, subst, sym, ap, rules}
+use Rattle.d_num.specs.Amount.{IsUpTo}
+use Rattle.d_tier.specs.declared.peak.Peak.{Peak}
+use Rattle.d_bill.specs.Inputs.{HasPeakPrices}
+use Rattle.d_bound.proofs.LowFacts.{prices_at}
 use Rattle.d_bound.proofs.bound.low_charge.Goals as goal
 
--- src/bound.rt:42:1
 pub returns-clause-range : goal.returns-clause-range
-returns-clause-range c = ?
+returns-clause-range c =
+    c.charge.ensures.size (3 * 10 ^ 21) (10 ^ 13) (prices_at c.args.problem.now.peaks c.groups.result.now c.args.group c.index-groups-group.result c.groups.ensures.value c.groups.ensures.range.groups c.requires.group c.index-groups-group.is)
+    (subst (IsUpTo (10 ^ 13)) (sym c.low_end.ensures) (search rules))
+    (subst (IsUpTo (10 ^ 13)) c.value-floor.ensures.value c.value-floor.ensures.range)

@@ -1,27 +1,33 @@
-use Rattle.std.proofs.Common.{rules, ◌≡◌, ◌+ℤ◌, ◌^◌, ◌<◌, ◌*◌, length, ℕ, ◌+◌, ◌-◌, ◌≤◌, ◌/◌, ◌%◌, Bool, true, false, nat_eq, nat_lt, List, [], ◌∷◌, ◌++◌, slice_index_or, slice_set, bit_and, bit_or, Fits, w8, w32, w64, Bor, MutBor, ℤ, pos, ◌-ℤ◌, ◌*ℤ◌, ◌≤ℤ◌, ◌<ℤ◌, FitsSigned, to_z, of_z}
-use Rattle.d_num.specs.Amount.{IsWithin}
-use Rattle.d_bill.specs.Schedules.{IsFeasible}
-use Rattle.d_bill.specs.Bills.{bill_of, raised}
-use Rattle.d_bound.specs.Nodes.{low_charge, low_charges}
-use Rattle.d_bound.specs.BoundSteps.{ArePeaksInRange}
+use Rattle.std.proofs.Common.{◌≡◌, ◌≤◌, ◌<◌, ◌∙◌, ap, sym, length, arith, rules, ℕ, ℤ, pos}
+use Rattle.d_bound.specs.Nodes.{low_charge}
+use Rattle.d_num.specs.Sums.{sum_of_first}
+use Rattle.d_bound.proofs.LowFacts.{low_none, low_more, low_small, low_fits, groups_few}
 use Rattle.d_bound.proofs.bound.low_charges.Goals as goal
 
--- src/bound.rt:35:5
 pub loop-group-init : goal.loop-group-init
-loop-group-init c = ?
+loop-group-init c = low_none c.args.problem.now c.args.space.now c.unwrap-sum.result (search rules)
 
--- src/bound.rt:36:9
 pub plus-sum-requires : goal.plus-sum-requires
-plus-sum-requires c = ?
+plus-sum-requires c =
+    let few = groups_few c.args.problem.now c.groups-group-end.ensures.range in
+    let all = ap length c.groups-group-end.ensures.value in
+    let inside = c.loop-group-test.true in
+    low_fits c.args.problem.now c.args.space.now c.loop-group.group c.loop-group.sum c.low_charge.result c.loop-group.invariant (omega arith) c.low_charge.ensures.range
 
--- src/bound.rt:35:5
 pub loop-group-preserved : goal.loop-group-preserved
-loop-group-preserved c = ?
+loop-group-preserved c = low_more c.args.problem.now c.args.space.now c.loop-group.group c.loop-group.sum c.low_charge.result c.plus-sum.result c.loop-group.invariant c.low_charge.ensures.value c.low_charge.ensures.range c.plus-sum.ensures
 
--- src/bound.rt:29:1
 pub returns-clause-value : goal.returns-clause-value
-returns-clause-value c = ?
+returns-clause-value c =
+    let all = ap length c.groups-group-end.ensures.value in
+    let past = c.loop-group-test.false in
+    let inside = c.loop-group.auto.group-end in
+    let whole : c.loop-group.group ≡ length c.args.problem.now.peaks = omega arith in
+    c.loop-group.invariant.value ∙ ap (λ (n : ℕ). sum_of_first n (low_charge c.args.problem.now c.args.space.now)) whole
 
--- src/bound.rt:29:1
 pub returns-clause-range : goal.returns-clause-range
-returns-clause-range c = ?
+returns-clause-range c =
+    let few = groups_few c.args.problem.now c.groups-group-end.ensures.range in
+    let all = ap length c.groups-group-end.ensures.value in
+    let inside = c.loop-group.auto.group-end in
+    low_small c.args.problem.now c.args.space.now c.loop-group.group c.loop-group.sum c.loop-group.invariant (omega arith)

@@ -1,10 +1,6 @@
-use Rattle.std.proofs.Common.{◌≡◌, ◌+ℤ◌, ◌^◌, ◌<◌, ◌*◌, length, ℕ, ◌+◌, ◌-◌, ◌≤◌, ℤ, pos, ◌-ℤ◌, ◌*ℤ◌, ◌≤ℤ◌, ◌<ℤ◌, FitsSigned, to_z, of_z}
-use Rattle.d_num.specs.Amount.{IsWithin}
-use Rattle.d_bill.specs.Schedules.{IsFeasible}
-use Rattle.d_bill.specs.Bills.{bill_of, raised}
-use Rattle.d_bound.specs.Nodes.{low_charge, low_charges}
-use Rattle.d_bound.specs.BoundSteps.{ArePeaksInRange}
+use Rattle.d_bound.proofs.LowFacts.{IsLowSum}
 use Rattle.d_bound.proofs.bound.low_charges.Given as goal
 
+-- the charges so far
 abbrev pub invariant-loop-group : goal.invariant-loop-group
-invariant-loop-group l = ?
+invariant-loop-group l = IsLowSum l.problem l.space l.group l.sum

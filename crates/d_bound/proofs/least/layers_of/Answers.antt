@@ -1,11 +1,25 @@
-use Rattle.std.proofs.Common.{rules, ◌≡◌, [], length, IfOk, ℕ, ◌+◌, ◌-◌, ◌*◌, ◌<◌, ◌≤◌, ◌/◌, ◌%◌, Bool, true, false, nat_eq, nat_lt, List, ◌∷◌, ◌++◌, slice_index_or, slice_set, bit_and, bit_or, Fits, w8, w32, w64, Bor, MutBor}
-use Rattle.d_bill.specs.Slopes.{rates_of}
-use Rattle.d_path.specs.Arcs.{arcs_of, intervals_of, IsSound}
-use Rattle.d_path.specs.Days.{FitsDays}
-use Rattle.d_bound.specs.PlanWays.{IsFoundWay, IsFoundLeast}
-use Rattle.d_bound.specs.Bounders.{AreLayersOf, IsFoundFirst, levels_in, arcs_over}
+use Rattle.std.proofs.Common.{◌≡◌, ◌+◌, ◌-◌, ◌*◌, ◌/◌, ◌≤◌, ◌∙◌, ap, sym, arith, rules, replicate, ℕ}
+use Rattle.std.proofs.Math.Path.{ap₂}
+use Rattle.std.proofs.lemmas.Result.{IfOk-weaker}
+use Rattle.jiff_core.specs.Calendar.{days_in_month}
+use Rattle.d_num.specs.declared.pot.Pot.TheVariants.{NoWay}
+use Rattle.d_rows.specs.Days.{DayRows}
+use Rattle.d_batt.specs.Storage.{Storage}
+use Rattle.d_bound.specs.Bounders.{AreLayersOf}
+use Rattle.d_bound.proofs.LayerFacts.{layers_made}
 use Rattle.d_bound.proofs.least.layers_of.Goals as goal
 
--- src/least.rt:76:1
 pub returns : goal.returns
-returns c = ?
+returns c =
+    let i = c.args.problem.now in
+    let fine = c.month.ensures.range in
+    let days : c.from-days.result ≡ days_in_month i.year i.number = c.from-days.ensures ∙ c.days.ensures ∙ ap₂ days_in_month c.month.ensures.year c.month.ensures.number in
+    let floor : c.battery-battery.result.now.floor ≡ i.storage.floor = ap (λ (s : Storage). s.floor) c.battery-battery.ensures in
+    let capacity : c.battery-battery.result.now.capacity ≡ i.storage.capacity = ap (λ (s : Storage). s.capacity) c.battery-battery.ensures in
+    let order : (i.storage.floor ≤ i.storage.start) × (i.storage.start ≤ i.storage.capacity) = (fine.storage.floor, fine.storage.start) in
+    let levels : c.from-levels.result ≡ c.battery-battery.result.now.capacity - c.battery-battery.result.now.floor = c.from-levels.ensures in
+    IfOk-weaker c.make.result
+    (λ (r : DayRows). (r.kept ≡ replicate (c.from-days.result + 1) (replicate (c.from-levels.result + 1) NoWay)) × (r.window ≡ replicate (1440 / c.from-per_day.result - 1) (replicate (c.from-levels.result + 1) NoWay)))
+    (AreLayersOf i)
+    (λ r made. layers_made i r c.from-days.result c.from-per_day.result (c.from-levels.result + 1) fine days (c.from-per_day.ensures ∙ c.minutes.ensures) (omega (arith, order.0, order.1)) made.0 made.1)
+    c.make.ensures

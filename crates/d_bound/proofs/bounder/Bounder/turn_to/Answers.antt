@@ -1,18 +1,20 @@
-use Rattle.std.proofs.Common.{rules, ◌≡◌, ◌+◌, ◌<◌, ◌≤◌, [], length, option_map, IfOk, ℕ, ◌-◌, ◌*◌, ◌/◌, ◌%◌, Bool, true, false, nat_eq, nat_lt, List, ◌∷◌, ◌++◌, slice_index_or, slice_set, bit_and, bit_or, Fits, w8, w32, w64, Bor, MutBor}
-use Rattle.d_path.specs.Cheapest.{HasCheapest}
-use Rattle.d_path.specs.Arcs.{intervals_of}
-use Rattle.d_bill.specs.Inputs.{Inputs}
-use Rattle.d_bill.specs.Slopes.{tiered}
-use Rattle.d_bound.specs.Roots.{AreCandidates, root_box, IsProblemBox}
-use Rattle.d_bound.specs.Nodes.{box_arcs, box_schedule, node_of}
-use Rattle.d_bound.specs.BoxLaws.{IsUntiered}
-use Rattle.d_bound.specs.Bounders.{IsAtDay, IsBounderOf, IsFilled, IsWritten, held_arcs, capped_costs}
+use Rattle.std.proofs.Common.{◌≡◌, ◌+◌, ◌*◌, ◌≤◌, ℕ, length, ap, sym, subst}
+use Rattle.d_bound.proofs.DayFacts.{day_at}
 use Rattle.d_bound.proofs.bounder.Bounder.turn_to.Goals as goal
 
--- src/bounder.rt:150:5
 pub returns-then-day-self-clause-day : goal.returns-then-day-self-clause-day
-returns-then-day-self-clause-day c = ?
+returns-then-day-self-clause-day c =
+    let filled = c.requires.filled in
+    let at = day_at c.args.self.now.layers c.args.t c.per_day.result c.days.result c.min-day.result _ c.per_day.ensures c.days.ensures filled.fits.some_day filled.fits.intervals c.requires.inside c.min-day.ensures in
+    let long : length c.args.self.now.layers.window ≡ length c.fill_day.new.layers.window = sym c.fill_day.ensures.long in
+    let moved : (c.min-day.result * (length c.fill_day.new.layers.window + 1) ≤ c.args.t) × (c.args.t ≤ (c.min-day.result + 1) * (length c.fill_day.new.layers.window + 1)) =
+    subst (λ (n : ℕ). (c.min-day.result * (n + 1) ≤ c.args.t) × (c.args.t ≤ (c.min-day.result + 1) * (n + 1))) long at in
+    record { begun = moved.0; ended = moved.1 }
 
--- src/bounder.rt:150:5
 pub returns-else-day-self-clause-day : goal.returns-else-day-self-clause-day
-returns-else-day-self-clause-day c = ?
+returns-else-day-self-clause-day c =
+    let filled = c.requires.filled in
+    let at = day_at c.args.self.now.layers c.args.t c.per_day.result c.days.result c.min-day.result _ c.per_day.ensures c.days.ensures filled.fits.some_day filled.fits.intervals c.requires.inside c.min-day.ensures in
+    let same : (c.args.self.now.day * (length c.args.self.now.layers.window + 1) ≤ c.args.t) × (c.args.t ≤ (c.args.self.now.day + 1) * (length c.args.self.now.layers.window + 1)) =
+    subst (λ (d : ℕ). (d * (length c.args.self.now.layers.window + 1) ≤ c.args.t) × (c.args.t ≤ (d + 1) * (length c.args.self.now.layers.window + 1))) c.if-day-self.false at in
+    record { begun = same.0; ended = same.1 }
