@@ -1,10 +1,9 @@
 -- The powers that are gathered for each group are its candidates, and the ranges of the root go from the least to the greatest.
-use Rattle.std.proofs.Common.{◌≡◌, ◌⊎◌, inl, inr, ℕ, ℤ, pos, ◌+◌, ◌*◌, ◌/◌, ◌%◌, ◌<◌, ◌≤◌, List, [], ◌∷◌, ◌++◌, length, map, Option, Some, None, refl, sym, ap, ◌∙◌, subst, arith, get_or, slice_get, slice_set, replicate}
+use Rattle.std.proofs.Common.{◌≡◌, ◌⊎◌, inl, inr, ℕ, ℤ, pos, ◌+◌, ◌*◌, ◌/◌, ◌%◌, ◌<◌, ◌≤◌, List, [], ◌∷◌, ◌++◌, length, map, Option, Some, None, refl, sym, ap, ◌∙◌, subst, arith, get_or, slice_get, replicate, Vec, Global}
 use Rattle.std.specs.List.{Contains, All, range_with_len}
-use Rattle.std.proofs.Math.Path.{ap₂}
 use Rattle.std.proofs.lemmas.Bool.{cases_eq}
 use Rattle.std.proofs.lemmas.Nat.{div-mul-add, mod-mul-add, mul-add-lt, row_below_turned}
-use Rattle.std.proofs.lemmas.List.{length_push, get_or_push, get_or_append_left, get_or_past, length-set, get_or-set_same, get_or-set_other, length-replicate, get_or-replicate}
+use Rattle.std.proofs.lemmas.List.{map_push, length_push, get_or_push, get_or_append_left, get_or_past, length-replicate, get_or-replicate}
 use Rattle.std.proofs.lemmas.List.Elements.{Contains-append_left, Contains-push, Contains-push_cases}
 use Rattle.std.proofs.lemmas.List.FromFn.{fill_by_all}
 use Rattle.std.proofs.lemmas.Option.{slice_get_within}
@@ -12,12 +11,12 @@ use Rattle.d_batt.specs.declared.mode.Mode.{Mode}
 use Rattle.d_box.specs.declared.space.Range.{Range}
 use Rattle.d_box.specs.declared.space.Space.{Space}
 use Rattle.d_box.specs.Boxes.{nothing, range_at}
-use Rattle.d_box.specs.Candidates.{IsRising, AreCandidatesOf, list_at, range_of}
+use Rattle.d_box.specs.Candidates.{IsRising, AreCandidatesOf, lists_of, list_at, range_of}
 use Rattle.d_bill.specs.declared.arc.Arc.{Arc}
 use Rattle.d_bill.specs.Inputs.{Inputs}
 use Rattle.d_bill.specs.Flows.{arc_of}
 use Rattle.d_bound.specs.Roots.{IsCandidate, AreCandidates}
-use Rattle.d_bound.specs.RootSteps.{IsDrawnAt, IsFoundDrawn, AreDrawnTo, AreDrawn, AreDrawnLists, IsRootTo, IsRootBy}
+use Rattle.d_bound.specs.RootSteps.{IsDrawnAt, AreDrawnTo, AreDrawn, AreDrawnLists, IsRootTo, IsRootBy}
 
 -- a candidate's mode is one of the battery's
 mode_inside : (i : Inputs) (group : ℕ) (power : ℤ) (c : IsCandidate i group power) → c.mode < length i.storage.modes
@@ -97,7 +96,7 @@ module _ (i : Inputs) (group : ℕ) where
           (record { held = c.held; arc = c.arc; there = c.there; drawn = c.drawn })
 
 -- one more group's list
-pub lists_more : (i : Inputs) (n : ℕ) (lists : List (List ℤ)) (list : List ℤ) → AreDrawnLists i n lists → AreDrawn i n list → AreDrawnLists i (n + 1) (lists ++ list ∷ [])
+lists_more : (i : Inputs) (n : ℕ) (lists : List (List ℤ)) (list : List ℤ) → AreDrawnLists i n lists → AreDrawn i n list → AreDrawnLists i (n + 1) (lists ++ list ∷ [])
 lists_more i n lists list to more = record {
   long = length_push lists list ∙ ap (λ (k : ℕ). k + 1) to.long;
   each = λ group below. elim (cases_eq group n) [
@@ -105,6 +104,12 @@ lists_more i n lists list to more = record {
     | inr apart ↦ subst (λ (l : List ℤ). AreDrawn i group l) (sym (get_or_append_left lists (list ∷ []) [] group (omega (arith, to.long)))) (to.each group (omega arith))
   ];
 }
+
+-- the same of vectors
+pub vectors_more : (i : Inputs) (n : ℕ) (lists new : List (Vec ℤ Global)) (list : Vec ℤ Global) → AreDrawnLists i n (lists_of lists) → AreDrawn i n list.items
+    → new ≡ lists ++ list ∷ [] → AreDrawnLists i (n + 1) (lists_of new)
+vectors_more i n lists new list to more push =
+    subst (λ (l : List (List ℤ)). AreDrawnLists i (n + 1) l) (sym (ap lists_of push ∙ map_push (λ (v : Vec ℤ Global). v.items) lists list)) (lists_more i n (lists_of lists) list.items to more)
 
 -- the lists that are made of these, each rising, are the candidates
 pub candidates_are : (i : Inputs) (lists sorted : List (List ℤ)) → AreDrawnLists i (length i.peaks) lists → AreCandidatesOf lists sorted → All IsRising sorted → AreCandidates i sorted
