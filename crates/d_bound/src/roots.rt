@@ -19,7 +19,12 @@ pub(crate) fn candidates_of(alloc: Global, problem: &Problem) -> Result<Candidat
     ensures { IfOk result (AreCandidates problem.now) }
 {
     let lists = drawn_lists(alloc, problem)?;
-    Ok(Candidates::from_lists(lists))
+    let candidates = Candidates::from_lists(lists);
+    if candidates.count() > 0 {
+        // shows that each list rises
+        let _first = candidates.list(0);
+    }
+    Ok(candidates)
 }
 
 /// For each group the powers that it may draw.
