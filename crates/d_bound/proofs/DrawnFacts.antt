@@ -1,6 +1,6 @@
 -- The powers that are gathered for each group are its candidates, and the ranges of the root go from the least to the greatest.
-use Rattle.std.proofs.Common.{◌≡◌, ◌⊎◌, inl, inr, ℕ, ℤ, pos, ◌+◌, ◌*◌, ◌/◌, ◌%◌, ◌<◌, ◌≤◌, List, [], ◌∷◌, ◌++◌, length, map, Option, Some, None, refl, sym, ap, ◌∙◌, subst, arith, get_or, slice_get, replicate, Vec, Global}
-use Rattle.std.specs.List.{Contains, All, range_with_len}
+use Rattle.std.proofs.Common.{◌≡◌, ◌⊎◌, inl, inr, ℕ, ℤ, ◌+◌, ◌*◌, ◌/◌, ◌%◌, ◌<◌, ◌≤◌, List, [], ◌∷◌, ◌++◌, length, Option, Some, None, refl, sym, ap, ◌∙◌, subst, arith, get_or, slice_get, replicate, Vec, Global}
+use Rattle.std.specs.List.{Contains, All}
 use Rattle.std.proofs.lemmas.Bool.{cases_eq}
 use Rattle.std.proofs.lemmas.Nat.{div-mul-add, mod-mul-add, mul-add-lt, row_below_turned}
 use Rattle.std.proofs.lemmas.List.{map_push, length_push, get_or_push, get_or_append_left, get_or_past, length-replicate, get_or-replicate}
@@ -12,7 +12,6 @@ use Rattle.d_box.specs.declared.space.Range.{Range}
 use Rattle.d_box.specs.declared.space.Space.{Space}
 use Rattle.d_box.specs.Boxes.{nothing, range_at}
 use Rattle.d_box.specs.Candidates.{IsRising, AreCandidatesOf, lists_of, list_at, range_of}
-use Rattle.d_bill.specs.declared.arc.Arc.{Arc}
 use Rattle.d_bill.specs.Inputs.{Inputs}
 use Rattle.d_bill.specs.Flows.{arc_of}
 use Rattle.d_bound.specs.Roots.{IsCandidate, AreCandidates}
@@ -27,13 +26,6 @@ mode_inside i group power c = by_mode (slice_get i.storage.modes c.mode) refl
     by_mode None none = let there = c.there in let nowhere : arc_of i c.interval c.mode ≡ None = rw none refl in absurd (cc)
 
 module _ (i : Inputs) (group : ℕ) where
-  -- nothing is gathered before the first place
-  pub drawn_none : AreDrawnTo i group 0 []
-  drawn_none = record {
-    drawn = λ power has. let below = has.1 in absurd (omega arith);
-    each = λ place power below here. absurd (omega arith);
-  }
-
   -- the power at a place of the list that goes interval by interval
   abbrev pub IsPlaced : ℕ → ℕ → ℤ → Type 0
   IsPlaced modes place power = IsDrawnAt i group (place / modes) (place % modes) power

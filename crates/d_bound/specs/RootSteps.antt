@@ -1,6 +1,5 @@
 -- Steps of gathering candidates; only private functions cite these words.
-use Rattle.std.specs.Prelude.{◌≡◌, ℕ, ℤ, ◌+◌, ◌*◌, ◌<◌, ◌≤◌, ◌/◌, ◌%◌, true, ⊤, List, Some, None, Option, length, Vec, map}
-use Rattle.std.specs.declared.alloc.Global.{Global}
+use Rattle.std.specs.Prelude.{◌≡◌, ℕ, ℤ, ◌<◌, ◌≤◌, ◌/◌, ◌%◌, true, List, Some, None, Option, length, map}
 use Rattle.std.specs.List.{Contains, range_with_len}
 use Rattle.d_box.specs.declared.space.Space.{Space}
 use Rattle.d_box.specs.Boxes.{nothing, range_at}

@@ -1,9 +1,8 @@
 //! The candidates of each group, and the box that holds every feasible schedule.
 
-ghost use Rattle.std.specs.Prelude.{◌≡◌, ◌<◌, ◌≤◌, IfOk, length};
+ghost use Rattle.std.specs.Prelude.{◌<◌, ◌≤◌, IfOk, length};
 ghost use Rattle.d_box.specs.Candidates.{lists_of};
-ghost use Rattle.d_bill.specs.Slopes.{tiered};
-ghost use Rattle.d_bound.specs.Roots.{AreCandidates, root_box};
+ghost use Rattle.d_bound.specs.Roots.{AreCandidates};
 ghost use Rattle.d_bound.specs.RootSteps.{AreDrawn, AreDrawnLists, IsFoundDrawn, IsRootBy};
 
 use d_bill::Problem;

@@ -1,4 +1,4 @@
-use Rattle.std.proofs.Common.{rules, w64, ◌≡◌, ℤ, List, [], ◌∷◌, ◌++◌, Vec, Global, length, ◌*◌, arith, ap, ◌∙◌}
+use Rattle.std.proofs.Common.{rules, w64, ◌≡◌, ℤ, [], ◌∷◌, ◌++◌, Vec, Global, length, ◌*◌, arith, ap, ◌∙◌}
 use Rattle.std.proofs.Math.Path.{ap₂}
 use Rattle.std.proofs.lemmas.Int.{to_z-of_z}
 use Rattle.d_batt.specs.Storage.{Storage}
