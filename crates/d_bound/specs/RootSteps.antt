@@ -1,9 +1,8 @@
 -- Steps of gathering candidates; only private functions cite these words.
-use Rattle.std.specs.Prelude.{◌≡◌, ℕ, ℤ, ◌+◌, ◌*◌, ◌<◌, ◌/◌, ◌%◌, true, ⊤, List, Some, None, Option, length, Vec, map}
-use Rattle.std.specs.declared.alloc.Global.{Global}
+use Rattle.std.specs.Prelude.{◌≡◌, ℕ, ℤ, ◌<◌, ◌≤◌, ◌/◌, ◌%◌, true, List, Some, None, Option, length, map}
 use Rattle.std.specs.List.{Contains, range_with_len}
 use Rattle.d_box.specs.declared.space.Space.{Space}
-use Rattle.d_box.specs.Boxes.{nothing}
+use Rattle.d_box.specs.Boxes.{nothing, range_at}
 use Rattle.d_box.specs.Candidates.{list_at, range_of}
 use Rattle.d_bill.specs.declared.arc.Arc.{Arc}
 use Rattle.d_bill.specs.Inputs.{Inputs, is_in_group}
@@ -36,6 +35,13 @@ pub record AreDrawn (i : Inputs) (group : ℕ) (list : List ℤ) : Type 0 where
 pub record AreDrawnLists (i : Inputs) (n : ℕ) (lists : List (List ℤ)) : Type 0 where
   pub long : length lists ≡ n
   pub each : (group : ℕ) → group < n → AreDrawn i group (list_at lists group)
+
+-- the ranges of the first n groups' peaks go from their least to their greatest candidate; all others are 0 to 0
+pub record IsRootTo (lists : List (List ℤ)) (n : ℕ) (space : Space) : Type 0 where
+  pub long : length space.peaks ≡ 37
+  pub peaks : (group : ℕ) → group < n → range_at space.peaks group ≡ range_of (list_at lists group)
+  pub rest : (group : ℕ) → n ≤ group → group < 37 → range_at space.peaks group ≡ nothing
+  pub totals : space.totals ≡ map (λ k. nothing) (range_with_len 0 36)
 
 -- the box whose ranges of peaks go from each group's least to its greatest candidate, and whose totals are 0
 abbrev pub IsRootBy : List (List ℤ) → Space → Type 0

@@ -1,9 +1,8 @@
 //! The candidates of each group, and the box that holds every feasible schedule.
 
-ghost use Rattle.std.specs.Prelude.{◌≡◌, ◌<◌, ◌≤◌, IfOk, length};
+ghost use Rattle.std.specs.Prelude.{◌<◌, ◌≤◌, IfOk, length};
 ghost use Rattle.d_box.specs.Candidates.{lists_of};
-ghost use Rattle.d_bill.specs.Slopes.{tiered};
-ghost use Rattle.d_bound.specs.Roots.{AreCandidates, root_box};
+ghost use Rattle.d_bound.specs.Roots.{AreCandidates};
 ghost use Rattle.d_bound.specs.RootSteps.{AreDrawn, AreDrawnLists, IsFoundDrawn, IsRootBy};
 
 use d_bill::Problem;
@@ -19,7 +18,12 @@ pub(crate) fn candidates_of(alloc: Global, problem: &Problem) -> Result<Candidat
     ensures { IfOk result (AreCandidates problem.now) }
 {
     let lists = drawn_lists(alloc, problem)?;
-    Ok(Candidates::from_lists(lists))
+    let candidates = Candidates::from_lists(lists);
+    if candidates.count() > 0 {
+        // shows that each list rises
+        let _first = candidates.list(0);
+    }
+    Ok(candidates)
 }
 
 /// For each group the powers that it may draw.
