@@ -18,12 +18,7 @@ pub(crate) fn candidates_of(alloc: Global, problem: &Problem) -> Result<Candidat
     ensures { IfOk result (AreCandidates problem.now) }
 {
     let lists = drawn_lists(alloc, problem)?;
-    let candidates = Candidates::from_lists(lists);
-    if candidates.count() > 0 {
-        // shows that each list rises
-        let _first = candidates.list(0);
-    }
-    Ok(candidates)
+    Ok(Candidates::from_lists(lists))
 }
 
 /// For each group the powers that it may draw.

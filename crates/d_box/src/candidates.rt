@@ -39,7 +39,8 @@ fn rise(list: &mut Vec<i64>)
 impl Candidates {
     /// The candidates in these lists, a list of powers in W for each group: each once, in rising order. The lists are sorted where they are.
     pub fn from_lists(lists: Vec<Vec<i64>>) -> Candidates
-        ensures { AreCandidatesOf (lists_of lists.items) result }
+        ensures same { AreCandidatesOf (lists_of lists.items) result }
+        ensures rises { All IsRising result }
     {
         let mut lists = lists;
         for group in 0..lists.len() {

@@ -13,3 +13,11 @@ invariant_of-result c =
     let long = c.loop-group.invariant.lists.long in
     let over = c.loop-group-test.false in
     all_rise _ _ c.loop-group.group c.loop-group.invariant (omega arith)
+
+pub returns-clause-rises : goal.returns-clause-rises
+returns-clause-rises c =
+    let l = c.len-group-end.ensures ∙ c.args.lists.ok.0 in
+    let a = length-map c.args.lists.items (λ r. r.items) in
+    let long = c.loop-group.invariant.lists.long in
+    let over = c.loop-group-test.false in
+    all_rise _ _ c.loop-group.group c.loop-group.invariant (omega arith)
