@@ -1,26 +1,30 @@
-use Rattle.std.proofs.Common.{rules, ◌≡◌, ◌<◌, ◌≤◌, ◌+◌, ◌*◌, length, ℕ, ◌-◌, ◌/◌, ◌%◌, Bool, true, false, nat_eq, nat_lt, List, [], ◌∷◌, ◌++◌, slice_index_or, slice_set, bit_and, bit_or, Fits, w8, w32, w64, Bor, MutBor, ℤ, pos, ◌+ℤ◌, ◌-ℤ◌, ◌*ℤ◌, ◌≤ℤ◌, ◌<ℤ◌, FitsSigned, to_z, of_z}
+use Rattle.std.proofs.Common.{rules, ◌≡◌, ◌<◌, ◌≤◌, ◌+◌, ◌*◌, ◌-◌, length, ℕ, ℤ, List, FitsSigned, to_z, of_z, w64, take, drop, arith, ap, refl, ◌∙◌, sym, subst}
+use Rattle.std.proofs.Math.Path.{ap₂}
+use Rattle.std.proofs.Math.Nat.{suc-mul}
+use Rattle.std.proofs.Math.Seq.{take-length}
+use Rattle.std.proofs.lemmas.Int.{to_z-of_z}
+use Rattle.d_num.specs.declared.pot.Pot.{Pot}
+use Rattle.d_batt.specs.Storage.{Storage}
 use Rattle.d_bill.specs.Slopes.{rates_of}
+use Rattle.d_bound.specs.PlanWays.{all_powers}
 use Rattle.d_bound.specs.Bounders.{IsCapOf, free_costs, mode_powers, capped_costs}
-use Rattle.d_bound.specs.CapSteps.{IsCapTo, AreCappedTo, CapsInterval, lesser_cap}
+use Rattle.d_bound.specs.CapSteps.{CapsInterval}
+use Rattle.d_bound.proofs.PlanArcs.{costs_long}
+use Rattle.d_bound.proofs.PowerFacts.{powers_long}
+use Rattle.d_bound.proofs.CapSums.{row_within, rows_more}
 use Rattle.d_bound.proofs.caps.cap_costs.Goals as goal
 
--- src/caps.rt:67:5
 pub loop-interval-init : goal.loop-interval-init
-loop-interval-init c = ?
+loop-interval-init c = let none : 0 * c.len-modes.result ≡ 0 = omega arith in rw none refl
 
--- src/caps.rt:73:13
 pub slice_bounds-cap_interval-end : goal.slice_bounds-cap_interval-end
 slice_bounds-cap_interval-end c = ?
 
--- src/caps.rt:74:13
-pub slice_bounds-cap_interval-end-in-loop-interval :
-    goal.slice_bounds-cap_interval-end-in-loop-interval
+pub slice_bounds-cap_interval-end-in-loop-interval : goal.slice_bounds-cap_interval-end-in-loop-interval
 slice_bounds-cap_interval-end-in-loop-interval c = ?
 
--- src/caps.rt:67:5
 pub loop-interval-preserved : goal.loop-interval-preserved
 loop-interval-preserved c = ?
 
--- src/caps.rt:53:1
 pub returns : goal.returns
 returns c = ?
