@@ -83,8 +83,8 @@ part_joins begin count before part whole within long so_far is =
     take-put_mid begin count before part (begin + count) (omega arith) within ∙ ap₂ ◌++◌ so_far is ∙ sym (take-add begin count whole)
 
 -- the row of an interval ends within a list that has an entry an interval and mode
-pub row_within : (t modes rows count long : ℕ) → t < rows → modes ≡ count → long ≡ rows * count → t * modes + modes ≤ long
-row_within t modes rows count long inside same whole = rw (same, whole) (omega (arith, suc-mul t count, mul-le-mul_right count inside))
+pub row_within : {t modes rows count long : ℕ} → t < rows → modes ≡ count → long ≡ rows * count → t * modes + modes ≤ long
+row_within {t} {modes} {rows} {count} {long} inside same whole = rw (same, whole) (omega (arith, suc-mul t count, mul-le-mul_right count inside))
 
 module _ (i : Inputs) (space : Space) (t : ℕ) where
   -- the power of an arc is at most the highest
@@ -138,7 +138,7 @@ module _ (i : Inputs) (t begin count : ℕ) (inside : t < length i.net) (begins 
   -- how many costs it has
   row_long : (allows : ℕ → ℤ → Bool) (rates : List ℤ) → length (take count (drop begin (mode_costs i allows rates))) ≡ count
   row_long allows rates =
-      let within = row_within t count (length i.net) (length i.storage.modes) (length (mode_costs i allows rates)) inside counted (costs_long i allows rates) in
+      let within = row_within inside counted (costs_long i allows rates) in
       let here : begin ≡ t * count = begins ∙ ap (λ (k : ℕ). t * k) (sym counted) in
       length-take-le count (drop begin (mode_costs i allows rates)) (omega (arith, length-drop begin (mode_costs i allows rates)))
 
@@ -163,6 +163,6 @@ module _ (i : Inputs) (t begin count : ℕ) (inside : t < length i.net) (begins 
       → take begin before ≡ take begin (capped_costs i space) → take (begin + count) (put_mid begin count before part) ≡ take (begin + count) (capped_costs i space)
   rows_more space cap costs powers before part fine is_cap free drawn capped long so_far =
       let is = row_capped space cap costs powers part fine is_cap free drawn capped in
-      let within = row_within t count (length i.net) (length i.storage.modes) (length before) inside counted long in
+      let within = row_within inside counted long in
       let here : begin ≡ t * count = begins ∙ ap (λ (k : ℕ). t * k) (sym counted) in
       part_joins begin count before part (capped_costs i space) (omega arith) (ap (λ (l : List Pot). length l) is ∙ row_long (is_capped i space) (rates_of i [])) so_far is

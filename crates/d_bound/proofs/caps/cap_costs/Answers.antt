@@ -24,7 +24,7 @@ slice_bounds-cap_interval-end c =
     let inside : c.loop-interval.interval < length i.net = omega (arith, c.intervals-interval-end.ensures.value) in
     let counted : c.len-modes.result ≡ length i.storage.modes = c.len-modes.ensures ∙ ap (λ (s : Storage). length s.modes) c.battery.ensures in
     let long : length c.args.costs.now ≡ length i.net * length i.storage.modes = ap (λ (l : List Pot). length l) c.requires.costs ∙ costs_long i all_powers (rates_of i []) in
-    let within = row_within c.loop-interval.interval c.len-modes.result (length i.net) (length i.storage.modes) (length c.args.costs.now) inside counted long in
+    let within = row_within inside counted long in
     omega arith
 
 pub slice_bounds-cap_interval-end-in-loop-interval : goal.slice_bounds-cap_interval-end-in-loop-interval
@@ -33,7 +33,7 @@ slice_bounds-cap_interval-end-in-loop-interval c =
     let inside : c.loop-interval.interval < length i.net = omega (arith, c.intervals-interval-end.ensures.value) in
     let counted : c.len-modes.result ≡ length i.storage.modes = c.len-modes.ensures ∙ ap (λ (s : Storage). length s.modes) c.battery.ensures in
     let long : length c.args.powers.now ≡ length i.net * length i.storage.modes = ap (λ (l : List ℤ). length l) c.requires.powers ∙ powers_long i in
-    let within = row_within c.loop-interval.interval c.len-modes.result (length i.net) (length i.storage.modes) (length c.args.powers.now) inside counted long in
+    let within = row_within inside counted long in
     omega arith
 
 pub loop-interval-preserved : goal.loop-interval-preserved

@@ -3,7 +3,7 @@ use Rattle.std.proofs.lemmas.Int.{to_z-of_z}
 use Rattle.std.proofs.lemmas.List.{get_or_default}
 use Rattle.d_num.specs.declared.pot.Pot.{Pot}
 use Rattle.d_num.specs.declared.pot.Pot.TheVariants.{NoWay}
-use Rattle.d_bound.specs.CapSteps.{within_cap}
+use Rattle.d_bound.specs.CapSteps.{within_cap, mode_within}
 use Rattle.d_bound.proofs.CapSums.{cost_stands, cost_falls}
 use Rattle.d_bound.proofs.caps.cap_interval.Goals as goal
 use Rattle.d_bound.proofs.caps.cap_interval.Goals.{then-powers-mode, else-powers-mode}
@@ -30,5 +30,5 @@ returns c =
     let fits : to_z w64 (of_z w64 c.args.cap) ≡ c.args.cap = to_z-of_z w64 c.args.cap c.ranges.cap in
     record {
       long = c.loop-mode.auto.capped ∙ c.requires.room;
-      each = λ m below. subst (λ (cap : ℤ). slice_index_or c.loop-mode.capped m NoWay ≡ within_cap cap (slice_index_or c.args.powers.now m (pos 0)) (slice_index_or c.args.costs.now m NoWay)) fits (c.loop-mode.invariant m (omega (arith, c.requires.room)));
+      each = λ m below. subst (λ (cap : ℤ). slice_index_or c.loop-mode.capped m NoWay ≡ mode_within cap c.args.costs.now c.args.powers.now m) fits (c.loop-mode.invariant m (omega (arith, c.requires.room)));
     }
