@@ -1,5 +1,5 @@
 -- The cap of an interval, group by group, and what the modes cost within it.
-use Rattle.std.proofs.Common.{◌≡◌, ℕ, suc, ℤ, pos, ◌+◌, ◌*◌, ◌^◌, ◌<◌, ◌≤◌, ◌+ℤ◌, ◌≤ℤ◌, Bool, true, false, not, ◌||◌, ◌&&◌, if◌then◌else◌, List, [], ◌++◌, length, get_or, take, drop, Option, Some, None, slice_get, refl, ap, ◌∙◌, sym, arith, add-one, int_le}
+use Rattle.std.proofs.Common.{◌≡◌, ℕ, ℤ, pos, ◌+◌, ◌*◌, ◌^◌, ◌<◌, ◌≤◌, ◌+ℤ◌, ◌≤ℤ◌, Bool, true, false, not, ◌||◌, ◌&&◌, if◌then◌else◌, List, [], ◌++◌, length, get_or, take, drop, Option, Some, None, slice_get, refl, ap, ◌∙◌, sym, arith, add-one, int_le}
 use Rattle.std.specs.Int.{int_min}
 use Rattle.std.proofs.Math.Path.{ap₂}
 use Rattle.std.proofs.Math.Nat.{suc-mul, mul-le-mul_right}
@@ -150,12 +150,12 @@ module _ (i : Inputs) (t begin count : ℕ) (inside : t < length i.net) (begins 
       let same : length (take count (drop begin costs)) ≡ count = ap (λ (l : List Pot). length (take count (drop begin l))) free ∙ row_long all_powers rates in
       ext_get_or NoWay part (take count (drop begin (capped_costs i space))) (capped.long ∙ same ∙ sym (row_long (is_capped i space) rates))
       (λ m below. let there : m < count = omega (arith, capped.long) in
-          capped.each m (omega (arith, capped.long))
-          ∙ ap₂ (within_cap cap)
-              (ap (λ (l : List ℤ). get_or (take count (drop begin l)) m (pos 0)) drawn ∙ power_in_row m there)
-              (ap (λ (l : List Pot). get_or (take count (drop begin l)) m NoWay) free ∙ cost_in_row all_powers rates m there)
-          ∙ cost_within i space t rates m cap fine inside is_cap
-          ∙ sym (cost_in_row (is_capped i space) rates m there))
+      capped.each m (omega (arith, capped.long))
+      ∙ ap₂ (within_cap cap)
+      (ap (λ (l : List ℤ). get_or (take count (drop begin l)) m (pos 0)) drawn ∙ power_in_row m there)
+      (ap (λ (l : List Pot). get_or (take count (drop begin l)) m NoWay) free ∙ cost_in_row all_powers rates m there)
+      ∙ cost_within i space t rates m cap fine inside is_cap
+      ∙ sym (cost_in_row (is_capped i space) rates m there))
 
   -- with that row written behind the rows so far, there is one more
   pub rows_more : (space : Space) (cap : ℤ) (costs : List Pot) (powers : List ℤ) (before part : List Pot) → IsInRange i → IsCapOf i space t cap → costs ≡ free_costs i → powers ≡ mode_powers i

@@ -19,13 +19,13 @@ loop-group-preserved c =
     let cap = to_z w64 c.loop-group.cap-bits in
     let is_cap = λ (z : ℤ). IsCapTo i space t (group + 1) z in
     elim c.if-in_group.branch [
-    | then-in_group w ↦
-        let fits : FitsSigned w64 w.lower_cap-cap.result = search rules in
-        let held : is_in_group i t group ≡ true = sym c.in_group.ensures ∙ w.if-in_group.true in
-        subst is_cap (sym (w.cap-is ∙ to_z-of_z w64 w.lower_cap-cap.result fits ∙ w.lower_cap-cap.ensures)) (cap_lowers i space t group cap held c.loop-group.invariant)
-    | else-in_group w ↦
-        let out : is_in_group i t group ≡ false = sym c.in_group.ensures ∙ w.if-in_group.false in
-        subst is_cap (sym w.cap-is) (cap_passes i space t group cap out c.loop-group.invariant)
+      | then-in_group w ↦
+          let fits : FitsSigned w64 w.lower_cap-cap.result = search rules in
+          let held : is_in_group i t group ≡ true = sym c.in_group.ensures ∙ w.if-in_group.true in
+          subst is_cap (sym (w.cap-is ∙ to_z-of_z w64 w.lower_cap-cap.result fits ∙ w.lower_cap-cap.ensures)) (cap_lowers i space t group cap held c.loop-group.invariant)
+      | else-in_group w ↦
+          let out : is_in_group i t group ≡ false = sym c.in_group.ensures ∙ w.if-in_group.false in
+          subst is_cap (sym w.cap-is) (cap_passes i space t group cap out c.loop-group.invariant)
     ]
 
 pub returns : goal.returns

@@ -1,4 +1,4 @@
-use Rattle.std.proofs.Common.{rules, ◌≡◌, ◌<◌, ◌≤◌, ◌+◌, ◌*◌, ◌-◌, length, ℕ, ℤ, List, [], FitsSigned, to_z, of_z, w64, take, drop, arith, ap, refl, ◌∙◌, sym, subst}
+use Rattle.std.proofs.Common.{rules, ◌≡◌, ◌<◌, ◌+◌, ◌*◌, ◌-◌, length, ℕ, ℤ, List, [], FitsSigned, w64, take, arith, ap, refl, ◌∙◌, sym}
 use Rattle.std.proofs.Math.Path.{ap₂}
 use Rattle.std.proofs.Math.Nat.{suc-mul}
 use Rattle.std.proofs.Math.Seq.{take-length}
@@ -8,8 +8,7 @@ use Rattle.d_batt.specs.Storage.{Storage}
 use Rattle.d_bill.specs.Slopes.{rates_of}
 use Rattle.d_bound.specs.PlanWays.{all_powers}
 use Rattle.d_bound.specs.Caps.{is_capped}
-use Rattle.d_bound.specs.Bounders.{IsCapOf, free_costs, mode_powers, capped_costs}
-use Rattle.d_bound.specs.CapSteps.{CapsInterval}
+use Rattle.d_bound.specs.Bounders.{capped_costs}
 use Rattle.d_bound.proofs.PlanArcs.{costs_long}
 use Rattle.d_bound.proofs.PowerFacts.{powers_long}
 use Rattle.d_bound.proofs.CapSums.{row_within, rows_more}
@@ -48,8 +47,8 @@ loop-interval-preserved c =
     let fits : FitsSigned w64 c.cap_at-cap.result = search rules in
     let capped = rw (to_z-of_z w64 c.cap_at-cap.result fits) at c.cap_interval.ensures in
     rw (← ends) (rows_more i t (t * modes) (t * modes + modes - t * modes) inside (ap (λ (k : ℕ). t * k) counted) count c.args.space.now c.cap_at-cap.result
-        c.args.costs.now c.args.powers.now c.loop-interval.capped c.cap_interval.new.capped
-        c.intervals-interval-end.ensures.range c.cap_at-cap.ensures c.requires.costs c.requires.powers capped (c.loop-interval.auto.capped ∙ c.requires.room) c.loop-interval.invariant)
+    c.args.costs.now c.args.powers.now c.loop-interval.capped c.cap_interval.new.capped
+    c.intervals-interval-end.ensures.range c.cap_at-cap.ensures c.requires.costs c.requires.powers capped (c.loop-interval.auto.capped ∙ c.requires.room) c.loop-interval.invariant)
 
 pub returns : goal.returns
 returns c =
