@@ -7,7 +7,6 @@ use Rattle.d_box.specs.declared.space.Range.{Range}
 use Rattle.d_box.specs.declared.space.Space.{Space}
 use Rattle.d_bill.specs.Inputs.{Inputs}
 use Rattle.d_bound.specs.Caps.{all_below, is_under}
-use Rattle.d_bound.specs.Bounders.{capped_costs}
 
 -- the lesser of a cap and of the high end of a range
 abbrev pub lesser_cap : ℤ → Range → ℤ
@@ -21,12 +20,11 @@ IsCapTo i space t n cap = (power : ℤ) → power ≤ℤ pos (10 ^ 13) → int_l
 abbrev pub within_cap : ℤ → ℤ → Pot → Pot
 within_cap cap power cost = if int_le power cap then cost else NoWay
 
+-- what the mode at this place costs within a cap
+abbrev pub mode_within : ℤ → List Pot → List ℤ → ℕ → Pot
+mode_within cap costs powers m = within_cap cap (slice_index_or powers m (pos 0)) (slice_index_or costs m NoWay)
+
 -- the costs of the modes of an interval within its cap
 pub record CapsInterval (cap : ℤ) (costs : List Pot) (powers : List ℤ) (capped : List Pot) : Type 0 where
   pub long : length capped ≡ length costs
-  pub each : (m : ℕ) → m < length costs → slice_index_or capped m NoWay ≡ within_cap cap (slice_index_or powers m (pos 0)) (slice_index_or costs m NoWay)
-
--- the first n costs are those within the caps
-pub record AreCappedTo (i : Inputs) (space : Space) (n : ℕ) (old capped : List Pot) : Type 0 where
-  pub long : length capped ≡ length old
-  pub each : (place : ℕ) → place < n → slice_index_or capped place NoWay ≡ slice_index_or (capped_costs i space) place NoWay
+  pub each : (m : ℕ) → m < length costs → slice_index_or capped m NoWay ≡ mode_within cap costs powers m

@@ -1,9 +1,8 @@
 //! Caps: the costs of what a box lets be drawn.
 
-ghost use Rattle.std.specs.Prelude.{◌≡◌, ◌<◌, ◌≤◌, ◌+◌, ◌*◌, length};
-ghost use Rattle.d_bill.specs.Slopes.{rates_of};
+ghost use Rattle.std.specs.Prelude.{◌≡◌, ◌<◌, ◌*◌, length};
 ghost use Rattle.d_bound.specs.Bounders.{IsCapOf, free_costs, mode_powers, capped_costs};
-ghost use Rattle.d_bound.specs.CapSteps.{IsCapTo, AreCappedTo, CapsInterval, lesser_cap};
+ghost use Rattle.d_bound.specs.CapSteps.{CapsInterval, lesser_cap};
 
 use d_bill::Problem;
 use d_box::{Range, Space};

@@ -1,8 +1,6 @@
-use Rattle.std.proofs.Common.{◌≡◌, ◌<◌, ◌≤◌, ◌+◌, ◌*◌, length, ℕ, ◌-◌, ℤ, pos, ◌+ℤ◌, ◌-ℤ◌, ◌*ℤ◌, ◌≤ℤ◌, ◌<ℤ◌, FitsSigned, to_z, of_z}
-use Rattle.d_bill.specs.Slopes.{rates_of}
-use Rattle.d_bound.specs.Bounders.{IsCapOf, free_costs, mode_powers, capped_costs}
-use Rattle.d_bound.specs.CapSteps.{IsCapTo, AreCappedTo, CapsInterval, lesser_cap}
+use Rattle.d_bound.specs.CapSteps.{IsCapTo}
 use Rattle.d_bound.proofs.caps.cap_at.Given as goal
 
+-- the cap of the groups so far
 abbrev pub invariant-loop-group : goal.invariant-loop-group
-invariant-loop-group l = ?
+invariant-loop-group l = IsCapTo l.problem l.space l.interval l.group l.cap
