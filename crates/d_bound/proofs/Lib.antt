@@ -20,3 +20,4 @@ mod CandidateFacts
 pub mod RootFacts
 pub mod NodeFacts
 pub mod SizeFacts
+mod BoxWays

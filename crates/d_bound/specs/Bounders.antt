@@ -11,7 +11,7 @@ use Rattle.d_path.specs.Days.{per_day_of, FitsDays, AreKeptCheapest, AreInnerChe
 use Rattle.d_box.specs.declared.space.Space.{Space}
 use Rattle.d_box.specs.declared.slopes.Slopes.{Slopes}
 use Rattle.d_bill.specs.declared.arc.Arc.{Arc}
-use Rattle.d_bill.specs.Inputs.{Inputs}
+use Rattle.d_bill.specs.Inputs.{Inputs, IsInRange}
 use Rattle.d_bill.specs.Flows.{arc_of}
 use Rattle.d_bill.specs.Slopes.{rates_of}
 use Rattle.d_bound.specs.declared.bounder.Bounder.{Bounder}
@@ -61,6 +61,7 @@ arcs_over levels costs moves =
 
 -- a bounder that was made of the problem
 pub record IsBounderOf (i : Inputs) (b : Bounder) : Type 0 where
+  pub range : IsInRange i
   pub costs : b.costs.items ≡ free_costs i
   pub powers : b.powers.items ≡ mode_powers i
   pub room : length b.capped.items ≡ length i.net * length i.storage.modes

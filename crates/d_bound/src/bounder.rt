@@ -47,6 +47,8 @@ impl Bounder {
         requires { tiered problem.now ≡ [] }
         ensures { IfOk result (IsBounderOf problem.now) }
     {
+        // shows the ranges of the problem
+        let _count = problem.intervals();
         let rates = prices_of(alloc, problem)?;
         let costs = costs_of(alloc, problem, rates.as_slice())?;
         let powers = powers_of(alloc, problem)?;
@@ -73,8 +75,6 @@ impl Bounder {
         requires bounder { IsBounderOf problem.now self.now }
         ensures { result ≡ root_box problem.now self.now.candidates }
     {
-        // shows how many groups there are
-        let _groups = problem.groups();
         root_of(&self.candidates)
     }
 
@@ -105,11 +105,7 @@ impl Bounder {
     {
         let slopes = first_slopes(space, parent);
         self.cap(problem, space);
-        let ways = ways_over(
-            self.levels,
-            self.capped.as_slice(),
-            self.moves.as_slice(),
-        );
+        let ways = ways_over(self.levels, self.capped.as_slice(), self.moves.as_slice());
         match find_first(&ways, &mut self.layers, schedule) {
             Some(cost) => Node {
                 bound: Some(bound_of(problem, space, cost)),
@@ -136,11 +132,7 @@ impl Bounder {
         ensures filled { IsFilled self.new }
     {
         self.cap(problem, space);
-        let ways = ways_over(
-            self.levels,
-            self.capped.as_slice(),
-            self.moves.as_slice(),
-        );
+        let ways = ways_over(self.levels, self.capped.as_slice(), self.moves.as_slice());
         backward_days(&ways, &mut self.layers);
         fill_day(&ways, 0, &mut self.layers);
         self.day = 0;
@@ -158,11 +150,7 @@ impl Bounder {
     {
         let day = (t / self.layers.per_day()).min(self.layers.days() - 1);
         if day != self.day {
-            let ways = ways_over(
-                self.levels,
-                self.capped.as_slice(),
-                self.moves.as_slice(),
-            );
+            let ways = ways_over(self.levels, self.capped.as_slice(), self.moves.as_slice());
             fill_day(&ways, day, &mut self.layers);
             self.day = day;
         }

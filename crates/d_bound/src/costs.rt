@@ -88,11 +88,7 @@ pub(crate) fn powers_of(alloc: Global, problem: &Problem) -> Result<Vec<i64>, No
     let count = problem.intervals() as usize * modes;
     let mut powers = Vec::with_capacity(alloc, count)?;
     for place in 0..count {
-        powers.push(power_of(
-            problem,
-            (place / modes) as u32,
-            (place % modes) as u8,
-        ))?;
+        powers.push(power_of(problem, (place / modes) as u32, (place % modes) as u8))?;
     }
     Ok(powers)
 }

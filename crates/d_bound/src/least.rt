@@ -52,11 +52,7 @@ fn first_way(
 }
 
 /// What the cheapest way costs, or None exactly where there is no way. The schedule becomes the first of the cheapest ways, or stays.
-pub(crate) fn find_first(
-    ways: &Ways,
-    layers: &mut DayLayers,
-    schedule: &mut [u8],
-) -> Option<Money>
+pub(crate) fn find_first(ways: &Ways, layers: &mut DayLayers, schedule: &mut [u8]) -> Option<Money>
     requires sound { IsSound (arcs_of ways.now) }
     requires fits { FitsDays (arcs_of ways.now) layers.old }
     requires room { length schedule.old ≡ intervals_of (arcs_of ways.now) }

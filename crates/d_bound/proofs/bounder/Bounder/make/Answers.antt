@@ -19,6 +19,7 @@ returns c =
     let all = c.in_ok-costs.costs.ok.0 in
     let same = c.len.ensures in
     record {
+      range = c.intervals-count.ensures.range;
       costs = costs;
       powers = c.in_ok-powers.ensures;
       room = omega (arith, long);
