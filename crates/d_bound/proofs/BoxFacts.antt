@@ -1,28 +1,26 @@
 -- The schedule of a box, its bill and its bound, where no period is tiered.
-use Rattle.std.proofs.Common.{◌≡◌, ◌⊎◌, inl, inr, ℕ, zero, suc, ℤ, pos, ◌+ℤ◌, ◌≤ℤ◌, ◌<◌, List, [], length, Option, Some, None, MatchOption, refl, sym, ap, ◌∙◌, subst, arith, get_or, slice_get, slice_index_or, option_map, Bool, true, if◌then◌else◌}
-use Rattle.std.specs.Int.{int_max}
+use Rattle.std.proofs.Common.{◌≡◌, ℕ, ℤ, pos, ◌+ℤ◌, ◌≤ℤ◌, ◌<◌, List, length, Option, Some, None, MatchOption, refl, ap, ◌∙◌, subst, arith, get_or, slice_get, slice_index_or, option_map, if◌then◌else◌}
 use Rattle.std.proofs.lemmas.Int.{ints, clamps}
 use Rattle.std.proofs.lemmas.Option.{get_or_from_slice_get}
-use Rattle.d_num.specs.Sums.{sum_of_first, greatest_of_first}
 use Rattle.d_tier.specs.declared.peak.Peak.{Peak}
 use Rattle.d_tier.proofs.RiseFacts.{rising}
 use Rattle.d_box.specs.declared.space.Space.{Space}
 use Rattle.d_box.specs.declared.slopes.Slopes.{Slopes}
-use Rattle.d_box.specs.Boxes.{IsIn, range_at}
+use Rattle.d_box.specs.Boxes.{range_at}
 use Rattle.d_bill.specs.Inputs.{Inputs, IsInRange, HasPeakPrices, is_in_group}
 use Rattle.d_bill.specs.Flows.{flow_at, power_of}
-use Rattle.d_bill.specs.Totals.{peak_to, tally_by, tally_of}
+use Rattle.d_bill.specs.Totals.{peak_to, tally_of}
 use Rattle.d_bill.specs.Schedules.{IsFeasible}
 use Rattle.d_bill.specs.Bills.{demand_charge, group_charge, group_charges, sum_of, raised, bill_of}
-use Rattle.d_bill.specs.Prices.{rate_gap, cost_of_flow}
-use Rattle.d_bill.specs.Slopes.{sum_over, tiered, rates_of, tier_gaps}
+use Rattle.d_bill.specs.Prices.{rate_gap}
+use Rattle.d_bill.specs.Slopes.{sum_over, rates_of, tier_gaps}
 use Rattle.d_bill.proofs.Values.{values_read, values_long}
 use Rattle.d_bill.proofs.ChargeFacts.{few_groups}
 use Rattle.d_bill.proofs.SlopeFacts.{parted_by_slopes}
 use Rattle.d_bound.specs.PlanWays.{power_at, rated_cost}
 use Rattle.d_bound.specs.Caps.{is_capped, KeepsCaps}
-use Rattle.d_bound.specs.Roots.{peaks_of, HoldsSchedule}
-use Rattle.d_bound.specs.Nodes.{box_arcs, box_schedule, low_charges, low_gaps, relaxed_by, relaxed_value, slopes_of, node_of}
+use Rattle.d_bound.specs.Roots.{HoldsSchedule}
+use Rattle.d_bound.specs.Nodes.{box_arcs, box_schedule, low_charges, low_gaps, relaxed_by, relaxed_value, slopes_of}
 use Rattle.d_bound.specs.BoxLaws.{IsUntiered, IsAtMost, IsFirstWithin, BoxesHaveFirst, IsBilled, BillsAreReached, BoundsAreBelow}
 use Rattle.d_bound.proofs.RateFacts.{fair_of}
 use Rattle.d_bound.proofs.LeastWays.{first_drawn, none_drawn}

@@ -1,6 +1,5 @@
 -- The ways within the caps of a box, as the bounder makes and uses them.
-use Rattle.std.proofs.Common.{◌≡◌, ◌≢◌, ℕ, ℤ, pos, ◌*◌, ◌^◌, ◌+ℤ◌, List, [], length, map, Option, Some, None, option_map, refl, sym, ap, ◌∙◌, subst, arith}
-use Rattle.std.proofs.Math.Path.{ap₂}
+use Rattle.std.proofs.Common.{◌≡◌, ℕ, ℤ, ◌^◌, ◌+ℤ◌, List, [], length, map, Option, Some, None, option_map, refl, sym, ap, ◌∙◌, subst}
 use Rattle.d_num.specs.Amount.{IsWithin}
 use Rattle.d_num.specs.declared.pot.Pot.{Pot}
 use Rattle.d_num.specs.declared.pot.Pot.TheVariants.{To, NoWay}
@@ -25,9 +24,8 @@ use Rattle.d_bill.specs.Totals.{values_of}
 use Rattle.d_bound.specs.declared.bounder.Bounder.{Bounder}
 use Rattle.d_bound.specs.declared.node.Node.{Node}
 use Rattle.d_bound.specs.PlanWays.{plan_arcs, rated_cost, DrawsAllowed}
-use Rattle.d_bound.specs.Choice.{cheapest_of}
 use Rattle.d_bound.specs.Caps.{is_capped}
-use Rattle.d_bound.specs.Nodes.{box_arcs, box_schedule, low_charges, relaxed_by, relaxed_value, slopes_of, trial_of, tiered_tables, tiers_in, node_at, node_of}
+use Rattle.d_bound.specs.Nodes.{box_arcs, box_schedule, low_charges, relaxed_by, relaxed_value, slopes_of, tiered_tables, tiers_in, node_at, node_of}
 use Rattle.d_bound.specs.BoxLaws.{IsUntiered}
 use Rattle.d_bound.specs.SlopeSteps.{untiered_slopes}
 use Rattle.d_bound.specs.Bounders.{IsBounderOf, IsFilled, IsFirstOf, AreLayersOf, arcs_over, held_arcs, capped_costs}

@@ -1,16 +1,15 @@
 -- A group's highest demand in a feasible schedule is a power that a mode draws in one of the group's intervals.
-use Rattle.std.proofs.Common.{◌≡◌, ◌⊎◌, inl, inr, ℕ, zero, suc, ℤ, pos, negsuc, ◌+◌, ◌*◌, ◌^◌, ◌/◌, ◌<◌, ◌+ℤ◌, ◌*ℤ◌, ◌≤ℤ◌, List, length, Option, Some, None, refl, sym, ap, ◌∙◌, subst, arith, slice_get, slice_index, Bool, true, false, if◌then◌else◌}
+use Rattle.std.proofs.Common.{◌≡◌, ◌⊎◌, inl, inr, ℕ, zero, suc, ℤ, pos, negsuc, ◌*◌, ◌^◌, ◌<◌, ◌+ℤ◌, ◌*ℤ◌, ◌≤ℤ◌, List, length, Option, Some, None, refl, sym, ap, ◌∙◌, subst, arith, slice_get, slice_index, Bool, true, false, if◌then◌else◌}
 use Rattle.std.specs.Prelude.{int_div}
 use Rattle.std.proofs.lemmas.Int.{ints, clamps}
-use Rattle.std.proofs.lemmas.Option.{slice_get_within, get_or_from_slice_get}
 use Rattle.d_num.specs.Amount.{IsWithin, IsUpTo, IsWatt}
 use Rattle.d_num.specs.Sums.{greatest_of_first}
 use Rattle.d_batt.specs.declared.mode.Mode.{Mode}
 use Rattle.d_bill.specs.declared.arc.Arc.{Arc}
 use Rattle.d_bill.specs.Inputs.{Inputs, IsInRange, is_in_group}
-use Rattle.d_bill.specs.Flows.{net_at, import_of, flow_of, flow_at, grid_of, power_of, permitted_arc, arc_of, arc_of_flow}
+use Rattle.d_bill.specs.Flows.{net_at, import_of, flow_of, flow_at, grid_of, power_of, arc_of, arc_of_flow}
 use Rattle.d_bill.specs.Totals.{peak_to}
-use Rattle.d_bill.specs.Schedules.{KeepsRules, IsFeasible}
+use Rattle.d_bill.specs.Schedules.{IsFeasible}
 use Rattle.d_bill.proofs.RuleFacts.{arc_permitted, arc_there}
 use Rattle.d_bill.proofs.SizeFacts.{power_small}
 use Rattle.d_bill.proofs.WalkFacts.{grid_small}

@@ -1,5 +1,5 @@
 -- A schedule keeps the caps of a box exactly where each of its powers is within those of its interval.
-use Rattle.std.proofs.Common.{◌≡◌, ◌⊎◌, inl, inr, ℕ, zero, suc, ℤ, ◌<◌, ◌≤ℤ◌, Bool, true, false, not, ◌||◌, ◌&&◌, List, length, refl, sym, arith, int_le, nat_lt, slice_index, slice_get, subst}
+use Rattle.std.proofs.Common.{◌≡◌, inl, inr, ℕ, zero, suc, ℤ, ◌<◌, ◌≤ℤ◌, Bool, true, false, not, ◌||◌, ◌&&◌, List, length, refl, arith, int_le, nat_lt, slice_index, slice_get}
 use Rattle.std.proofs.lemmas.Int.{ints}
 use Rattle.std.proofs.lemmas.Bool.Decides.{nat_tests}
 use Rattle.d_box.specs.declared.space.Space.{Space}

@@ -1,12 +1,12 @@
 -- The first cheapest way as a value: it is among all lists of moves, which stand in their order.
-use Rattle.std.proofs.Common.{◌≡◌, ◌≢◌, ◌⊎◌, inl, inr, ℕ, zero, suc, ℤ, ◌+◌, ◌≤◌, ◌<◌, Bool, true, false, List, [], ◌∷◌, ◌++◌, Option, Some, None, length, map, MatchOption, refl, sym, ap, ap₂, ◌∙◌, subst, arith, int_le, if◌then◌else◌}
+use Rattle.std.proofs.Common.{◌≡◌, ◌≢◌, ◌⊎◌, inl, inr, ℕ, zero, suc, ℤ, ◌+◌, ◌≤◌, ◌<◌, Bool, true, false, List, [], ◌∷◌, ◌++◌, Option, Some, None, length, map, MatchOption, refl, sym, ap, ◌∙◌, subst, arith, int_le, if◌then◌else◌}
 use Rattle.std.specs.List.{range_with_len, flat_map}
 use Rattle.std.proofs.lemmas.Int.{ints}
 use Rattle.d_list.specs.Order.{IsNotAfter}
 use Rattle.d_num.specs.declared.pot.Pot.{Pot}
 use Rattle.d_num.specs.declared.pot.Pot.TheVariants.{To, NoWay}
 use Rattle.d_num.specs.Pot.{AtMost}
-use Rattle.d_path.specs.Arcs.{Arcs, arc_cost, level_after, intervals_of, way_cost, IsSound}
+use Rattle.d_path.specs.Arcs.{Arcs, arc_cost, level_after, intervals_of, way_cost}
 use Rattle.d_path.specs.Cheapest.{IsFirstCheapest}
 use Rattle.d_path.proofs.CostLemmas.{AtMost-refl, AtMost-trans, AtMost-NoWay, along_there, NoWay?}
 use Rattle.d_path.proofs.WayLemmas.{level_after_past, way_length, first_cheapest_same}

@@ -1,13 +1,11 @@
 -- Layers for the days of a month.
-use Rattle.std.proofs.Common.{◌≡◌, ◌⊎◌, inl, inr, ℕ, ℤ, ◌+◌, ◌-◌, ◌*◌, ◌/◌, ◌<◌, ◌≤◌, List, [], length, replicate, Bool, sym, ap, ◌∙◌, arith, refl}
+use Rattle.std.proofs.Common.{◌≡◌, ◌⊎◌, inl, inr, ℕ, ℤ, ◌+◌, ◌-◌, ◌*◌, ◌/◌, ◌<◌, ◌≤◌, List, [], length, replicate, Bool, sym, ap, ◌∙◌, arith}
 use Rattle.std.proofs.Math.Path.{ap₂}
 use Rattle.std.proofs.lemmas.Bool.Decides.{nat_tests}
 use Rattle.jiff_core.specs.Calendar.{days_in_month}
 use Rattle.d_num.specs.Amount.{IsReadingLength}
-use Rattle.d_num.specs.declared.pot.Pot.{Pot}
 use Rattle.d_num.specs.declared.pot.Pot.TheVariants.{NoWay}
 use Rattle.d_rows.specs.Days.{DayRows}
-use Rattle.d_path.specs.Arcs.{Arcs, intervals_of}
 use Rattle.d_path.specs.Days.{FitsDays}
 use Rattle.d_path.proofs.DayLaws.{made_fits}
 use Rattle.d_bill.specs.Inputs.{Inputs, IsInRange}

@@ -1,5 +1,5 @@
 -- The first cheapest way of a problem is the first of the schedules whose energy costs least.
-use Rattle.std.proofs.Common.{◌≡◌, ◌⊎◌, inl, inr, ℕ, ℤ, [], List, sym, ap, ◌∙◌, subst, arith, refl, length, Bool}
+use Rattle.std.proofs.Common.{◌≡◌, ◌⊎◌, inl, inr, ℕ, ℤ, [], List, sym, ap, ◌∙◌, subst, arith, refl, Bool}
 use Rattle.d_num.specs.declared.pot.Pot.{Pot}
 use Rattle.d_num.specs.declared.pot.Pot.TheVariants.{To, NoWay}
 use Rattle.d_num.specs.Pot.{AtMost}

@@ -1,15 +1,14 @@
 -- What a group charges at the low end of its range.
-use Rattle.std.proofs.Common.{ℕ, ℤ, pos, ◌≡◌, ◌<◌, ◌≤◌, ◌+◌, ◌*◌, ◌^◌, ◌+ℤ◌, List, Option, Some, None, IfSome, length, All, sym, subst, ap, ◌∙◌, arith, get_or}
+use Rattle.std.proofs.Common.{ℕ, ℤ, pos, ◌≡◌, ◌<◌, ◌≤◌, ◌+◌, ◌*◌, ◌^◌, ◌+ℤ◌, List, length, All, sym, subst, ap, ◌∙◌, arith, get_or}
 use Rattle.std.proofs.Math.Path.{ap₂}
 use Rattle.std.proofs.lemmas.Int.{ints}
-use Rattle.d_num.specs.Amount.{IsUpTo, IsWithin, IsWatt}
+use Rattle.d_num.specs.Amount.{IsUpTo, IsWithin}
 use Rattle.d_num.specs.Sums.{sum_of_first}
 use Rattle.d_num.proofs.Sums.{sum_more, sum_none}
 use Rattle.d_tier.specs.declared.peak.Peak.{Peak}
-use Rattle.d_tier.specs.declared.tier.Tier.{Tier}
 use Rattle.d_box.specs.declared.space.Space.{Space}
 use Rattle.d_bill.specs.Inputs.{Inputs, IsInRange, HasPeakPrices}
-use Rattle.d_bound.specs.Nodes.{low_charge, low_charges}
+use Rattle.d_bound.specs.Nodes.{low_charge}
 
 within : (most : ℕ) (z : ℤ) → IsUpTo most z → IsWithin most z
 within most z h = let low = h.0 in (omega (arith, ints), h.1)

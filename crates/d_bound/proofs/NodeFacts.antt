@@ -1,14 +1,11 @@
 -- Bounds never fall from a box to a part of it, and the bill of a point isn't above its bound.
-use Rattle.std.proofs.Common.{◌≡◌, ◌⊎◌, inl, inr, ℕ, zero, suc, ℤ, pos, ◌+ℤ◌, ◌-ℤ◌, ◌≤ℤ◌, ◌<◌, List, [], length, Option, Some, None, refl, sym, ap, ◌∙◌, subst, arith, slice_get, slice_index_or, option_map, Bool, true, false, if◌then◌else◌}
-use Rattle.std.proofs.lemmas.Int.{ints, clamps}
+use Rattle.std.proofs.Common.{◌≡◌, ℕ, ℤ, pos, ◌+ℤ◌, ◌-ℤ◌, ◌≤ℤ◌, ◌<◌, List, length, Option, Some, None, refl, subst, arith, slice_get, slice_index_or, option_map, Bool, true, false, if◌then◌else◌}
+use Rattle.std.proofs.lemmas.Int.{ints}
 use Rattle.std.proofs.lemmas.Option.{slice_get-get_or}
-use Rattle.d_num.specs.Sums.{sum_of_first}
-use Rattle.d_tier.specs.declared.peak.Peak.{Peak}
-use Rattle.d_tier.specs.Charges.{peak_charge}
 use Rattle.d_box.specs.declared.space.Space.{Space}
 use Rattle.d_box.specs.declared.slopes.Slopes.{Slopes}
 use Rattle.d_box.specs.Boxes.{range_at, AreRanges, IsPart}
-use Rattle.d_box.specs.Splits.{no_peak, gap_at, HasNoGap}
+use Rattle.d_box.specs.Splits.{no_peak, HasNoGap}
 use Rattle.d_bill.specs.Inputs.{Inputs, IsInRange, is_in_group}
 use Rattle.d_bill.specs.Flows.{flow_at, power_of}
 use Rattle.d_bill.specs.Totals.{peak_to, tally_of}
@@ -19,7 +16,7 @@ use Rattle.d_bill.proofs.ChargeFacts.{few_groups}
 use Rattle.d_bound.specs.PlanWays.{power_at, rated_cost}
 use Rattle.d_bound.specs.Caps.{KeepsCaps}
 use Rattle.d_bound.specs.Nodes.{box_schedule, low_charges, relaxed_by, relaxed_value, slopes_of}
-use Rattle.d_bound.specs.BoxLaws.{IsUntiered, IsAtMost, IsFirstWithin, BoundsRise, PointsMeet}
+use Rattle.d_bound.specs.BoxLaws.{IsUntiered, IsAtMost, BoundsRise, PointsMeet}
 use Rattle.d_bound.proofs.SumFacts.{sum_rises, greatest_below}
 use Rattle.d_bound.proofs.TrialFacts.{value_same}
 use Rattle.d_bound.proofs.BoxFacts.{IsFoundWithin, boxes_first, demand_rises, untiered_sum, untiered_relaxed, raised_order}

@@ -1,34 +1,27 @@
 -- The root of a problem holds every feasible schedule, and of the halves of a box one does.
-use Rattle.std.proofs.Common.{◌≡◌, ◌⊎◌, inl, inr, ℕ, zero, suc, ℤ, pos, negsuc, ◌+◌, ◌-◌, ◌*◌, ◌^◌, ◌/◌, ◌≤◌, ◌<◌, ◌≤ℤ◌, ◌<ℤ◌, List, [], ◌∷◌, length, map, All, Option, Some, None, refl, sym, ap, ◌∙◌, subst, arith, get_or, slice_get, slice_index, slice_index_or, Bool, true, false, if◌then◌else◌}
-use Rattle.std.specs.Prelude.{int_div}
-use Rattle.std.specs.List.{range_with_len, Contains}
-use Rattle.std.proofs.lemmas.Int.{ints, clamps}
+use Rattle.std.proofs.Common.{◌≡◌, ◌⊎◌, inl, inr, ℕ, ℤ, pos, ◌-◌, ◌≤◌, ◌<◌, List, [], ◌∷◌, length, All, refl, sym, ap, ◌∙◌, subst, arith, get_or, slice_get}
+use Rattle.std.specs.List.{Contains}
+use Rattle.std.proofs.lemmas.Int.{ints}
 use Rattle.std.proofs.lemmas.List.{get_or_past, length-map}
 use Rattle.std.proofs.lemmas.List.Elements.{Contains-get_or}
 use Rattle.std.proofs.lemmas.List.FromFn.{length-map-range_with_len, get_or-map-range_with_len}
-use Rattle.d_num.specs.Amount.{IsWithin, IsUpTo, IsWatt}
-use Rattle.d_num.specs.Sums.{greatest_of_first}
-use Rattle.d_batt.specs.declared.mode.Mode.{Mode}
+use Rattle.d_num.specs.Amount.{IsWatt}
 use Rattle.d_box.specs.declared.space.Range.{Range}
-use Rattle.d_box.specs.declared.space.Space.{Space}
 use Rattle.d_box.specs.declared.space.Split.TheVariants.{Total, Peak}
-use Rattle.d_box.specs.Boxes.{IsIn, nothing, range_at, number_at, AreIn, AreRanges}
+use Rattle.d_box.specs.Boxes.{IsIn, nothing, range_at, number_at, AreRanges}
 use Rattle.d_box.specs.Candidates.{IsRising, list_at, range_of, IsRangeOf, RangeHas}
 use Rattle.d_box.specs.Halves.{OneOf}
 use Rattle.d_box.proofs.HalfFacts.{written, ends_are, peak_cover, total_cover, boxes, keep_ends}
 use Rattle.d_box.proofs.ListFacts.{range_has}
-use Rattle.d_bill.specs.declared.arc.Arc.{Arc}
-use Rattle.d_bill.specs.Inputs.{Inputs, IsInRange, is_in_group}
-use Rattle.d_bill.specs.Flows.{net_at, import_of, flow_of, flow_at, grid_of, power_of, arc_of, arc_of_flow}
+use Rattle.d_bill.specs.Inputs.{Inputs, IsInRange}
+use Rattle.d_bill.specs.Flows.{flow_at}
 use Rattle.d_bill.specs.Totals.{import_to, peak_to}
-use Rattle.d_bill.specs.Schedules.{KeepsRules, IsFeasible}
+use Rattle.d_bill.specs.Schedules.{IsFeasible}
 use Rattle.d_bill.specs.Slopes.{tiered}
 use Rattle.d_bill.proofs.ChargeFacts.{few_groups}
-use Rattle.d_bill.proofs.RuleFacts.{arc_permitted, arc_there}
 use Rattle.d_bill.proofs.Values.{values_read, values_long}
-use Rattle.d_bound.specs.PlanWays.{power_at}
 use Rattle.d_bound.specs.Roots.{IsCandidate, AreCandidates, total_range, root_box, peaks_of, tiered_totals, HoldsSchedule, IsDrawnRange, IsProblemBox}
-use Rattle.d_bound.specs.BoxLaws.{IsUntiered, RootsAreBoxes, RootsHold, HalvesAreBoxes, HalvesHold}
+use Rattle.d_bound.specs.BoxLaws.{RootsAreBoxes, RootsHold, HalvesAreBoxes, HalvesHold}
 use Rattle.d_bound.proofs.CandidateFacts.{candidate_watt, peak_drawn, IsUndrawn}
 
 -- the lists of candidates

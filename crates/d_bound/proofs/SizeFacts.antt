@@ -1,13 +1,11 @@
 -- How large a relaxed value can be.
-use Rattle.std.proofs.Common.{◌≡◌, inl, inr, ℕ, ℤ, pos, ◌+◌, ◌*◌, ◌^◌, ◌<◌, ◌≤◌, ◌+ℤ◌, ◌-ℤ◌, ◌*ℤ◌, List, [], length, All, Option, Some, None, refl, sym, ap, ◌∙◌, subst, arith, get_or, slice_get, slice_index_or, option_map}
+use Rattle.std.proofs.Common.{◌≡◌, inl, inr, ℕ, ℤ, pos, ◌*◌, ◌^◌, ◌<◌, ◌≤◌, ◌+ℤ◌, ◌-ℤ◌, ◌*ℤ◌, List, [], length, Option, Some, None, sym, ap, subst, arith, get_or, slice_get, option_map}
 use Rattle.std.specs.Int.{int_max}
 use Rattle.std.proofs.lemmas.Int.{ints, clamps}
 use Rattle.std.proofs.lemmas.Option.{slice_get-get_or}
-use Rattle.d_num.specs.Amount.{IsWithin, IsUpTo, IsWatt}
-use Rattle.d_num.specs.Sums.{sum_of_first}
+use Rattle.d_num.specs.Amount.{IsWithin, IsUpTo}
 use Rattle.d_num.proofs.Products.{product_within}
 use Rattle.d_num.proofs.Sums.{sum_same, sum_within}
-use Rattle.d_tier.specs.declared.peak.Peak.{Peak}
 use Rattle.d_tier.specs.Charges.{peak_charge}
 use Rattle.d_tier.proofs.ChargeFacts.{charge_within}
 use Rattle.d_box.specs.declared.space.Space.{Space}
@@ -18,7 +16,7 @@ use Rattle.d_box.specs.Splits.{no_peak}
 use Rattle.d_bill.specs.Inputs.{Inputs, IsInRange, period_in, sell_at}
 use Rattle.d_bill.specs.Flows.{flow_at, import_of, export_of}
 use Rattle.d_bill.specs.Totals.{Tallied, values_of}
-use Rattle.d_bill.specs.Bills.{demand_charge, group_charge, group_charges}
+use Rattle.d_bill.specs.Bills.{demand_charge, group_charge}
 use Rattle.d_bill.specs.Prices.{rate_of, step_cost}
 use Rattle.d_bill.specs.Slopes.{rates_of}
 use Rattle.d_bill.specs.Counting.{group_limit}

@@ -1,5 +1,5 @@
 -- Where no period is tiered nothing depends on slopes: each trial has the value of the first.
-use Rattle.std.proofs.Common.{◌≡◌, ℕ, zero, suc, ℤ, pos, ◌+ℤ◌, ◌<◌, Bool, true, false, List, [], length, Option, Some, None, refl, sym, ap, ◌∙◌, arith, option_map, int_lt, if◌then◌else◌, slice_index_or}
+use Rattle.std.proofs.Common.{◌≡◌, ℕ, zero, suc, ℤ, pos, ◌+ℤ◌, ◌<◌, Bool, true, false, List, [], length, Option, Some, None, refl, sym, ap, ◌∙◌, arith, option_map, if◌then◌else◌, slice_index_or}
 use Rattle.std.proofs.Math.Path.{ap₂}
 use Rattle.std.proofs.lemmas.Int.{ints}
 use Rattle.d_num.specs.Sums.{sum_of_first}
@@ -19,7 +19,7 @@ use Rattle.d_bill.proofs.Values.{values_same}
 use Rattle.d_bound.specs.PlanWays.{plan_arcs, rated_cost}
 use Rattle.d_bound.specs.Choice.{cheapest_of}
 use Rattle.d_bound.specs.Caps.{is_capped}
-use Rattle.d_bound.specs.Nodes.{tiered_tables, box_schedule, low_charges, low_gaps, relaxed_by, relaxed_value, trial_of, trials_of, is_above, first_greatest, slopes_of, node_of, node_at}
+use Rattle.d_bound.specs.Nodes.{tiered_tables, box_schedule, low_charges, low_gaps, relaxed_by, relaxed_value, trial_of, trials_of, is_above, first_greatest, slopes_of}
 use Rattle.d_bound.specs.BoxLaws.{IsUntiered}
 
 -- no period is tiered

@@ -1,15 +1,14 @@
 -- What a bounder keeps of its problem, and what its layers have after they were filled. Our own words; only calls of this crate cite the
 -- parts.
-use Rattle.std.specs.Prelude.{◌≡◌, ◌⊎◌, ℕ, ◌+◌, ◌-◌, ◌*◌, ◌/◌, ◌%◌, ◌<◌, ◌≤◌, ◌^◌, ◌&&◌, ℤ, pos, ◌≤ℤ◌, Bool, List, [], Option, Some, None, length, map, slice_index_or, int_le, MatchOption}
+use Rattle.std.specs.Prelude.{◌≡◌, ℕ, ◌+◌, ◌*◌, ◌/◌, ◌%◌, ◌<◌, ◌≤◌, ◌^◌, ℤ, pos, ◌≤ℤ◌, List, [], Option, Some, None, length, map, int_le, MatchOption}
 use Rattle.std.specs.List.{range_with_len}
 use Rattle.d_num.specs.declared.pot.Pot.{Pot}
 use Rattle.d_num.specs.declared.pot.Pot.TheVariants.{To, NoWay}
 use Rattle.d_rows.specs.Days.{DayRows}
 use Rattle.d_path.specs.Arcs.{Arcs, way_cost, IsSound}
-use Rattle.d_path.specs.Cheapest.{IsFirstCheapest, IsWide, HasCheapest}
+use Rattle.d_path.specs.Cheapest.{IsFirstCheapest}
 use Rattle.d_path.specs.Days.{per_day_of, FitsDays, AreKeptCheapest, AreInnerCheapest}
 use Rattle.d_box.specs.declared.space.Space.{Space}
-use Rattle.d_box.specs.declared.slopes.Slopes.{Slopes}
 use Rattle.d_bill.specs.declared.arc.Arc.{Arc}
 use Rattle.d_bill.specs.Inputs.{Inputs, IsInRange}
 use Rattle.d_bill.specs.Flows.{arc_of}
@@ -74,11 +73,12 @@ pub record IsBounderOf (i : Inputs) (b : Bounder) : Type 0 where
 abbrev pub held_arcs : Bounder → Arcs
 held_arcs b = arcs_over b.levels b.capped.items b.moves.items
 
--- the least cost and the first cheapest way, or None where there is no way, and then the schedule is as it was
+-- the first cheapest way and what it costs
 pub record IsFirstOf (a : Arcs) (least : ℤ) (s : List ℕ) : Type 0 where
   pub first : IsFirstCheapest a 0 a.start s
   pub cost : way_cost a 0 a.start s ≡ To least
 
+-- both are found, or None where there is no way, and then the schedule is as it was
 abbrev pub IsFoundFirst : Arcs → List ℕ → List ℕ → Option ℤ → Type 0
 IsFoundFirst a before after None = ((s : List ℕ) → way_cost a 0 a.start s ≡ NoWay) × (after ≡ before)
 IsFoundFirst a before after (Some cost) = IsFirstOf a cost after

@@ -1,5 +1,5 @@
 -- The first of the cheapest ways, as a value: of all lists of moves, in their order, the first that costs least. All of it is our own rule.
-use Rattle.std.specs.Prelude.{ℕ, zero, suc, ℤ, Bool, true, false, ◌&&◌, not, List, [], ◌∷◌, Option, Some, None, map, length, int_le, if◌then◌else◌}
+use Rattle.std.specs.Prelude.{ℕ, zero, suc, Bool, true, false, List, [], ◌∷◌, Option, Some, None, map, length, int_le, if◌then◌else◌}
 use Rattle.std.specs.List.{range_with_len, flat_map}
 use Rattle.d_num.specs.declared.pot.Pot.{Pot}
 use Rattle.d_num.specs.declared.pot.Pot.TheVariants.{To, NoWay}

@@ -1,5 +1,5 @@
 -- The bound of a box, which no bill of a schedule that the box holds goes below. All of it is our own rule.
-use Rattle.std.specs.Prelude.{ℕ, zero, suc, ℤ, pos, ◌+ℤ◌, ◌+◌, ◌*◌, Bool, true, false, List, [], Option, Some, None, length, map, slice_get, option_map, int_lt, if◌then◌else◌}
+use Rattle.std.specs.Prelude.{ℕ, zero, suc, ℤ, ◌+ℤ◌, ◌+◌, ◌*◌, Bool, true, false, List, [], Option, Some, None, length, map, slice_get, option_map, int_lt, if◌then◌else◌}
 use Rattle.d_num.specs.Sums.{sum_of_first}
 use Rattle.d_tier.specs.declared.tier.Tier.{Tier}
 use Rattle.d_tier.specs.Gaps.{least_gap}

@@ -1,5 +1,5 @@
 -- The powers that a group's highest demand may have, and the box that holds every feasible schedule. All of it is our own rule.
-use Rattle.std.specs.Prelude.{ℕ, ℤ, pos, ◌≤ℤ◌, ◌≡◌, ◌⊎◌, ◌<◌, ◌==◌, Bool, true, List, Option, Some, None, length, map, slice_get, if◌then◌else◌}
+use Rattle.std.specs.Prelude.{ℕ, ℤ, pos, ◌≡◌, ◌⊎◌, ◌<◌, ◌==◌, true, List, Option, Some, None, length, map, slice_get, if◌then◌else◌}
 use Rattle.std.specs.List.{range_with_len, All, Contains}
 use Rattle.d_num.specs.Sums.{sum_of_first, greatest_of_first}
 use Rattle.d_box.specs.declared.space.Range.{Range}

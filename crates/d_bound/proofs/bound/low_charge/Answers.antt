@@ -1,7 +1,5 @@
-use Rattle.std.proofs.Common.{rules, ◌≡◌, ◌*◌, ◌^◌, ◌<◌, List, length, All, subst, sym, ap, rules}
+use Rattle.std.proofs.Common.{rules, ◌*◌, ◌^◌, subst, sym, rules}
 use Rattle.d_num.specs.Amount.{IsUpTo}
-use Rattle.d_tier.specs.declared.peak.Peak.{Peak}
-use Rattle.d_bill.specs.Inputs.{HasPeakPrices}
 use Rattle.d_bound.proofs.LowFacts.{prices_at}
 use Rattle.d_bound.proofs.bound.low_charge.Goals as goal
 

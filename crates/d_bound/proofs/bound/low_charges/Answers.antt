@@ -1,4 +1,4 @@
-use Rattle.std.proofs.Common.{◌≡◌, ◌≤◌, ◌<◌, ◌∙◌, ap, sym, length, arith, rules, ℕ, ℤ, pos}
+use Rattle.std.proofs.Common.{◌≡◌, ◌∙◌, ap, length, arith, rules, ℕ}
 use Rattle.d_bound.specs.Nodes.{low_charge}
 use Rattle.d_num.specs.Sums.{sum_of_first}
 use Rattle.d_bound.proofs.LowFacts.{low_none, low_more, low_small, low_fits, groups_few}

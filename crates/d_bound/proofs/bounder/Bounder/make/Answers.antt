@@ -1,5 +1,4 @@
-use Rattle.std.proofs.Common.{◌≡◌, ◌*◌, ℤ, List, [], length, map, ap, sym, ◌∙◌, arith}
-use Rattle.d_num.specs.declared.pot.Pot.{Pot}
+use Rattle.std.proofs.Common.{◌≡◌, ◌*◌, [], length, map, ap, ◌∙◌, arith}
 use Rattle.d_batt.specs.Storage.{Storage}
 use Rattle.d_bill.specs.Slopes.{rates_of}
 use Rattle.d_bound.specs.PlanWays.{all_powers, mode_costs, move_of}

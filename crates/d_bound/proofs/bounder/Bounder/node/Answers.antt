@@ -1,8 +1,7 @@
-use Rattle.std.proofs.Common.{◌≡◌, ◌∙◌, sym, ap, subst, option_map, List, ℕ, ℤ, Option, Some, None, refl}
+use Rattle.std.proofs.Common.{◌≡◌, ◌∙◌, sym, subst, option_map, List, ℕ, Option, Some, None, refl}
 use Rattle.d_path.specs.Arcs.{arcs_of}
 use Rattle.d_bound.specs.Bounders.{IsWritten}
 use Rattle.d_bound.specs.Nodes.{box_schedule}
-use Rattle.d_bound.specs.BoxLaws.{IsUntiered}
 use Rattle.d_bound.proofs.BoxWays.{capped_arcs, ways_capped, capped_sound, capped_fit, fit_capped, capped_long, capped_feasible, capped_small, schedule_found, schedule_none, with_layers, node_some, node_none}
 use Rattle.d_bound.proofs.bounder.Bounder.node.Goals as goal
 use Rattle.d_bound.proofs.bounder.Bounder.node.Goals.{After-ways_over-ways}

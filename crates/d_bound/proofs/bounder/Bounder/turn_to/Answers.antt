@@ -1,4 +1,4 @@
-use Rattle.std.proofs.Common.{◌≡◌, ◌+◌, ◌*◌, ◌≤◌, ℕ, length, ap, sym, subst}
+use Rattle.std.proofs.Common.{◌≡◌, ◌+◌, ◌*◌, ◌≤◌, ℕ, length, sym, subst}
 use Rattle.d_bound.proofs.DayFacts.{day_at}
 use Rattle.d_bound.proofs.bounder.Bounder.turn_to.Goals as goal
 
