@@ -36,13 +36,13 @@ fn count(minutes: u8) -> u16
     MINUTES / u16::from(minutes)
 }
 
-/// The readings of the month: `usual` in each interval, but `noon` in the one that begins on the 12th at 12:00.
-pub fn february(alloc: Global, minutes: u8, usual: Wh, noon: Wh) -> Result<Meter, NoMemory>
+/// The readings of the month: 1000 Wh in each interval, but `noon` in the one that begins on the 12th at 12:00.
+pub fn february(alloc: Global, minutes: u8, noon: Wh) -> Result<Meter, NoMemory>
     requires minutes { IsReadingLength minutes }
-    requires usual { IsWithin (10 ^ 9) usual }
     requires noon { IsWithin (10 ^ 9) noon }
     ensures { IfOk result (λ m. m.minutes ≡ minutes) }
 {
+    let usual = Wh::new(1000).unwrap();
     let at_noon = NOON / u16::from(minutes);
     let mut net = NetList::new(alloc);
     for interval in 0..count(minutes) {
@@ -71,25 +71,43 @@ fn mode(name: Name, change: i16, grid: Wh) -> Mode
     }
 }
 
-/// An empty battery of 4 levels, each of so many Wh. It idles by mode 0, charges by mode 1 and discharges by mode 2; it exports nothing.
-pub fn battery(alloc: Global, step: i64, end: u8, max_import: Wh) -> Result<Battery, NoMemory>
-    requires step { IsUpTo 1000 step }
+/// An empty battery of 4 levels, each of 1000 Wh. It idles by mode 0, charges by mode 1 and discharges by mode 2, and exports nothing.
+pub fn battery(alloc: Global, end: u8, max_import: Wh) -> Result<Battery, NoMemory>
     requires end { end ≤ 4 }
     requires import { IsUpTo (10 ^ 10) max_import }
 {
     let mut modes = ModeList::new(alloc);
     modes.add(mode(Name::new(b"idle").unwrap(), 0, Wh::new(0).unwrap()))?;
-    modes.add(mode(Name::new(b"charge").unwrap(), 1, Wh::new(step).unwrap()))?;
+    modes.add(mode(Name::new(b"charge").unwrap(), 1, Wh::new(1000).unwrap()))?;
     modes.add(mode(
         Name::new(b"discharge").unwrap(),
         -1,
-        Wh::new(-step).unwrap(),
+        Wh::new(-1000).unwrap(),
     ))?;
     Ok(Battery {
         capacity: 4,
         floor: 0,
         start: 0,
         end,
+        max_import,
+        max_export: Wh::new(0).unwrap(),
+        modes,
+    })
+}
+
+/// The same at 250 Wh a level, of which nothing has to be left at the end.
+pub fn quarter_battery(alloc: Global, max_import: Wh) -> Result<Battery, NoMemory>
+    requires { IsUpTo (10 ^ 10) max_import }
+{
+    let mut modes = ModeList::new(alloc);
+    modes.add(mode(Name::new(b"idle").unwrap(), 0, Wh::new(0).unwrap()))?;
+    modes.add(mode(Name::new(b"charge").unwrap(), 1, Wh::new(250).unwrap()))?;
+    modes.add(mode(Name::new(b"discharge").unwrap(), -1, Wh::new(-250).unwrap()))?;
+    Ok(Battery {
+        capacity: 4,
+        floor: 0,
+        start: 0,
+        end: 0,
         max_import,
         max_export: Wh::new(0).unwrap(),
         modes,
