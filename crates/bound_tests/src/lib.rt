@@ -1,5 +1,9 @@
-//! Tests of the cheapest schedule of a problem, over public calls alone.
+//! Tests of the cheapest schedule of a problem and of the bounds of its boxes, over public calls alone.
 #![tactic(auto)]
 
 #[cfg(test)]
+mod demand;
+#[cfg(test)]
 mod february;
+#[cfg(test)]
+mod makers;
