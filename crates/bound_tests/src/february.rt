@@ -34,7 +34,8 @@ fn problem(alloc: Global, end: u8, max_import: Wh) -> Result<Problem, Fail>
     requires import { IsUpTo (10 ^ 10) max_import }
 {
     let tariff = tariff(alloc, RECORD.as_bytes())?;
-    let meter = february(alloc, 60, Wh::new(1000).unwrap())?;
+    let hourly = Wh::new(1000).unwrap();
+    let meter = february(alloc, 60, hourly, hourly)?;
     let battery = battery(alloc, end, max_import)?;
     let problem = Problem::join(alloc, &tariff, &meter, &battery, Watt::new(0).unwrap())?;
     Ok(problem)

@@ -36,13 +36,13 @@ fn count(minutes: u8) -> u16
     MINUTES / u16::from(minutes)
 }
 
-/// The readings of the month: 1000 Wh in each interval, but `noon` in the one that begins on the 12th at 12:00.
-pub fn february(alloc: Global, minutes: u8, noon: Wh) -> Result<Meter, NoMemory>
+/// The readings of the month: `usual` in each interval, but `noon` in the one that begins on the 12th at 12:00.
+pub fn february(alloc: Global, minutes: u8, usual: Wh, noon: Wh) -> Result<Meter, NoMemory>
     requires minutes { IsReadingLength minutes }
+    requires usual { IsWithin (10 ^ 9) usual }
     requires noon { IsWithin (10 ^ 9) noon }
     ensures { IfOk result (λ m. m.minutes ≡ minutes) }
 {
-    let usual = Wh::new(1000).unwrap();
     let at_noon = NOON / u16::from(minutes);
     let mut net = NetList::new(alloc);
     for interval in 0..count(minutes) {
