@@ -63,8 +63,8 @@ impl Front {
     pub fn least(&self) -> Option<Key>
         ensures { IsFirst self.now.keys result }
     {
-        let Reverse(key) = self.heap.peek()?;
-        Some(*key)
+        let first = self.heap.peek()?;
+        Some(first.0)
     }
 
     /// Takes out the key that comes first, or answers None exactly where there is none.
