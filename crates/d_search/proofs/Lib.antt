@@ -1,0 +1,4 @@
+mod OrderFacts
+mod PlaceFacts
+mod SplitFacts
+mod GrownFacts

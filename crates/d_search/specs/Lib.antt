@@ -1,0 +1,7 @@
+pub mod Rules
+pub mod Keys
+pub mod Trees
+pub mod Grown
+pub mod Outcomes
+pub mod Promises
+pub mod Laws
