@@ -2,3 +2,5 @@ mod OrderFacts
 mod PlaceFacts
 mod SplitFacts
 mod GrownFacts
+mod BoundFacts
+mod HeldFacts
