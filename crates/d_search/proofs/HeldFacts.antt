@@ -4,7 +4,7 @@ use Rattle.std.proofs.lemmas.Bool.{cases_eq}
 use Rattle.std.proofs.lemmas.Option.{same_Some}
 use Rattle.std.proofs.lemmas.Int.{ints}
 use Rattle.d_bound.specs.BoxLaws.{IsAtMost}
-use Rattle.d_search.specs.declared.key.Key.{Key}
+use Rattle.d_front.specs.declared.key.Key.{Key}
 use Rattle.d_search.specs.declared.tree.TreeNode.{TreeNode}
 use Rattle.d_search.specs.Rules.{Rules, Meaning, IsLawful}
 use Rattle.d_search.specs.Trees.{key_at, IsFirstLeaf, leaf_of, split_node, left_leaf, right_leaf, IsSplitOnce}

@@ -3,8 +3,8 @@ use Rattle.std.proofs.Common.{◌≡◌, ◌⊎◌, inl, inr, ℕ, ◌<◌, ◌�
 use Rattle.std.proofs.lemmas.Bool.{cases_lt, cases_Bool}
 use Rattle.std.proofs.lemmas.Int.{ints, by_lt_z}
 use Rattle.d_bound.specs.BoxLaws.{IsAtMost}
-use Rattle.d_search.specs.declared.key.Key.{Key}
-use Rattle.d_search.specs.Keys.{rank, ComesFirst}
+use Rattle.d_front.specs.declared.key.Key.{Key}
+use Rattle.d_front.specs.Keys.{rank, ComesFirst}
 use Rattle.d_search.specs.Rules.{IsBelow}
 
 -- none is above every number

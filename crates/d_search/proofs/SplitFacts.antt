@@ -3,7 +3,7 @@ use Rattle.std.proofs.Common.{◌≡◌, ◌≢◌, ◌⊎◌, inl, inr, ℕ, �
 use Rattle.std.proofs.lemmas.Option.{slice_get_within, slice_get_past, same_Some, none-some}
 use Rattle.d_box.specs.declared.space.Space.{Space}
 use Rattle.d_box.specs.declared.space.Split.{Split}
-use Rattle.d_search.specs.declared.key.Key.{Key}
+use Rattle.d_front.specs.declared.key.Key.{Key}
 use Rattle.d_search.specs.declared.tree.TreeNode.{TreeNode}
 use Rattle.d_search.specs.Rules.{Rules}
 use Rattle.d_search.specs.Trees.{key_from, key_of, key_at, bound_at, IsFirstLeaf, split_node, left_leaf, right_leaf, halves_of, after_split, IsSplitOnce}

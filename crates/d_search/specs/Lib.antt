@@ -1,5 +1,4 @@
 pub mod Rules
-pub mod Keys
 pub mod Trees
 pub mod Grown
 pub mod Outcomes

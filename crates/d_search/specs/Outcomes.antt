@@ -1,7 +1,7 @@
 -- What a search answers. All of it is our own rule.
 use Rattle.std.specs.Prelude.{◌≡◌, ℕ, ◌+◌, ◌<◌, ◌≤◌, ⊤, ℤ, List, [], Option, Some, None, true, false, length, slice_get, option_map}
 use Rattle.d_bound.specs.BoxLaws.{IsAtMost}
-use Rattle.d_search.specs.declared.key.Key.{Key}
+use Rattle.d_front.specs.declared.key.Key.{Key}
 use Rattle.d_search.specs.declared.tree.TreeNode.{TreeNode}
 use Rattle.d_search.specs.declared.outcome.Outcome.{Outcome}
 use Rattle.d_search.specs.declared.outcome.Verdict.{Verdict}

@@ -2,7 +2,7 @@
 use Rattle.std.specs.Prelude.{◌≡◌, ◌≢◌, ℕ, ◌+◌, ◌<◌, ℤ, ◌≤ℤ◌, ◌<ℤ◌, List, Option, Some, None, true, false, length, slice_get}
 use Rattle.d_bound.specs.BoxLaws.{IsAtMost}
 use Rattle.d_box.specs.declared.space.Split.{Split}
-use Rattle.d_search.specs.declared.key.Key.{Key}
+use Rattle.d_front.specs.declared.key.Key.{Key}
 use Rattle.d_search.specs.declared.tree.TreeNode.{TreeNode}
 use Rattle.d_search.specs.declared.outcome.Outcome.{Outcome}
 use Rattle.d_search.specs.declared.outcome.Verdict.TheVariants.{Least, GapBudget, GapDuality, Infeasible}

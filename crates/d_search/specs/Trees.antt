@@ -3,9 +3,9 @@ use Rattle.std.specs.Prelude.{◌≡◌, ℕ, ◌+◌, ℤ, List, [], ◌∷◌,
 use Rattle.d_box.specs.declared.space.Space.{Space}
 use Rattle.d_box.specs.declared.space.Split.{Split}
 use Rattle.d_box.specs.declared.slopes.Slopes.{Slopes}
-use Rattle.d_search.specs.declared.key.Key.{Key}
+use Rattle.d_front.specs.declared.key.Key.{Key}
 use Rattle.d_search.specs.declared.tree.TreeNode.{TreeNode}
-use Rattle.d_search.specs.Keys.{ComesFirst}
+use Rattle.d_front.specs.Keys.{ComesFirst}
 use Rattle.d_search.specs.Rules.{Rules, IsBelow}
 
 -- the key of a node of this number, box, split and bound: a node that was split has none, nor has one without a bound

@@ -4,12 +4,11 @@
 //! crate knows no tariff, battery or file. It doesn't search yet.
 #![tactic(auto)]
 
-mod key;
 mod law;
 mod outcome;
 mod tree;
 
-pub use key::Key;
+
 pub use law::{one_outcome, outcomes_are_there};
 pub use outcome::{Modes, Outcome, Verdict};
 pub use tree::{Tree, TreeNode};

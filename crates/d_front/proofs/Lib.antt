@@ -1,0 +1,2 @@
+mod FirstFacts
+mod FrontFacts
