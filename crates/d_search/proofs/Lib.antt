@@ -4,3 +4,6 @@ mod SplitFacts
 mod GrownFacts
 mod BoundFacts
 mod HeldFacts
+mod CountFacts
+mod StoodFacts
+mod SameFacts
