@@ -7,3 +7,6 @@ mod HeldFacts
 mod CountFacts
 mod StoodFacts
 mod SameFacts
+pub mod PromiseFacts
+pub mod BudgetFacts
+mod ThereFacts
