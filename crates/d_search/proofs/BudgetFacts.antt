@@ -34,9 +34,10 @@ pub can_split : (r : Rules) (nodes : List TreeNode) (key : Key) → IsFirstLeaf 
     → ((i : ℕ) → IsBelow (Some key.bound) (bill_at nodes i)) → (next : List TreeNode) × IsSplitOnce r nodes next
 can_split r nodes key first apart below =
     let has = key_parts r nodes key.node key first.here in
-    let found = some_from (r.split_of has.node.space) (sym has.point ∙ apart) in
-    (after_split r nodes key.node has.node found.0,
-      record { key = key; first = first; below = below; parent = has.node; at = has.at; split = found.0; some = found.1; halves = refl })
+    let found = some_from (r.split_of has.node.space) (sym has.point ∙ apart) in (
+      after_split r nodes key.node has.node found.0,
+      record { key = key; first = first; below = below; parent = has.node; at = has.at; split = found.0; some = found.1; halves = refl },
+    )
 
 -- a bound below the least bill is below all
 pub below_all : (nodes : List TreeNode) (number : ℕ) (bound bill : ℤ) → IsEarliestLeast nodes number bill → IsBelow (Some bound) (Some bill)

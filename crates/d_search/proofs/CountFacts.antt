@@ -36,8 +36,13 @@ spare_after : (r : Rules) (m : Meaning) (size : Space → ℕ) → IsLawful r m 
     → (s : IsSplitOnce r before after) → m.is_box s.parent.space → sum_by (spare size) after + 1 ≡ sum_by (spare size) before
 spare_after r m size lawful counted before after s box =
     ap (λ (l : List TreeNode). sum_by (spare size) l + 1) s.halves ∙ omega (
-      arith, sum_more (spare size) written (left_leaf r s.parent s.split) (right_leaf r s.parent s.split),
-      sum_written (spare size) before s.key.node s.parent (split_node s.parent s.split (length before)) s.at, was, left, right, shared,
+      arith,
+      sum_more (spare size) written (left_leaf r s.parent s.split) (right_leaf r s.parent s.split),
+      sum_written (spare size) before s.key.node s.parent (split_node s.parent s.split (length before)) s.at,
+      was,
+      left,
+      right,
+      shared,
     )
   where
     written : List TreeNode

@@ -67,11 +67,11 @@ pub record IsRootAt (r : Rules) (nodes : List TreeNode) : Type 0 where
 root_after : (r : Rules) (before after : List TreeNode) → IsSplitOnce r before after → IsRootAt r before → IsRootAt r after
 root_after r before after s old = elim (cases_eq 0 s.key.node) [
   | inl same ↦ record {
-      first = split_node s.parent s.split (length before);
-      at = ap (slice_get after) same ∙ split_same r before after s;
-      space = subst (λ (x : TreeNode). x.space ≡ r.root) (first_is same) old.space;
-      node = subst (λ (x : TreeNode). x.node ≡ r.node_of r.root None) (first_is same) old.node;
-    }
+    first = split_node s.parent s.split (length before);
+    at = ap (slice_get after) same ∙ split_same r before after s;
+    space = subst (λ (x : TreeNode). x.space ≡ r.root) (first_is same) old.space;
+    node = subst (λ (x : TreeNode). x.node ≡ r.node_of r.root None) (first_is same) old.node;
+  }
   | inr other ↦ record { first = old.first; at = split_other r before after s 0 old.first other old.at; space = old.space; node = old.node }
 ]
   where

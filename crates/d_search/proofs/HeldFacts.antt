@@ -29,8 +29,12 @@ held_after : (r : Rules) (m : Meaning) (before after : List TreeNode) (s : IsSpl
 held_after r m before after s z halves old = elim (cases_eq old.number s.key.node) [
   | inl same ↦ by_half (halves (subst (λ (x : TreeNode). m.holds x.space z) (parent_is same) old.holds))
   | inr other ↦ record {
-      number = old.number; leaf = old.leaf; at = split_other r before after s old.number old.leaf other old.at; is_leaf = old.is_leaf; holds = old.holds;
-    }
+    number = old.number;
+    leaf = old.leaf;
+    at = split_other r before after s old.number old.leaf other old.at;
+    is_leaf = old.is_leaf;
+    holds = old.holds;
+  }
 ]
   where
     parent_is : old.number ≡ s.key.node → old.leaf ≡ s.parent
@@ -38,16 +42,28 @@ held_after r m before after s z halves old = elim (cases_eq old.number s.key.nod
 
     by_half : m.holds (r.left_half s.parent.space s.split) z ⊎ m.holds (r.right_half s.parent.space s.split) z → IsHeld m after z
     by_half (inl left) = record {
-      number = length before; leaf = left_leaf r s.parent s.split; at = split_left r before after s; is_leaf = refl; holds = left;
+      number = length before;
+      leaf = left_leaf r s.parent s.split;
+      at = split_left r before after s;
+      is_leaf = refl;
+      holds = left;
     }
     by_half (inr right) = record {
-      number = length before + 1; leaf = right_leaf r s.parent s.split; at = split_right r before after s; is_leaf = refl; holds = right;
+      number = length before + 1;
+      leaf = right_leaf r s.parent s.split;
+      at = split_right r before after s;
+      is_leaf = refl;
+      holds = right;
     }
 
 pub grown_holds : (r : Rules) (m : Meaning) → IsLawful r m → (n : ℕ) (nodes : List TreeNode) → IsGrownBy r n nodes
     → (z : List ℕ) → m.feasible z → IsHeld m nodes z
 grown_holds r m lawful zero nodes grown z feasible = record {
-  number = 0; leaf = leaf_of r r.root None; at = ap (λ (l : List TreeNode). slice_get l 0) grown; is_leaf = refl; holds = lawful.root_holds z feasible;
+  number = 0;
+  leaf = leaf_of r r.root None;
+  at = ap (λ (l : List TreeNode). slice_get l 0) grown;
+  is_leaf = refl;
+  holds = lawful.root_holds z feasible;
 }
 grown_holds r m lawful (suc n) nodes grown z feasible =
     let s = grown.2 in
@@ -78,8 +94,10 @@ leaf_below r m lawful n nodes grown z feasible = by_bound held.leaf.node.bound r
     by_bound : (bound : Option ℤ) → held.leaf.node.bound ≡ bound → IsAtMost bound (Some (m.bill_of z)) → IsKeyBelow r nodes (m.bill_of z)
     by_bound None has le = absurd le
     by_bound (Some bound) has le = record {
-      number = held.number; key = record { bound = bound; point = is_none (r.split_of held.leaf.space); node = held.number };
-      here = key_there r nodes held.number held.leaf bound held.at held.is_leaf has; below = le;
+      number = held.number;
+      key = record { bound = bound; point = is_none (r.split_of held.leaf.space); node = held.number };
+      here = key_there r nodes held.number held.leaf bound held.at held.is_leaf has;
+      below = le;
     }
 
 -- so the first leaf's bound is one of all feasible schedules

@@ -12,7 +12,7 @@ use Rattle.d_search.specs.Rules.{Rules, Meaning, IsLawful, IsBillOf}
 use Rattle.d_search.specs.Trees.{bill_in, bound_at, bill_at}
 use Rattle.d_search.specs.Grown.{IsGrownBy}
 use Rattle.d_search.specs.Outcomes.{IsKept, IsFirstOpen, IsStop, IsVerdict, IsNoSchedule, IsAnswer, IsOutcome}
-use Rattle.d_search.specs.Promises.{IsBound, IsReached, IsLeastBill, HasGap, IsAtBound, IsBudgetGap, IsDualityGap, Promise}
+use Rattle.d_search.specs.Promises.{IsBound, IsReached, IsBounded, IsLeastBill, HasGap, IsAtBound, IsBudgetGap, IsDualityGap, Promise}
 use Rattle.d_search.specs.Laws.{OutcomesKeepPromises}
 use Rattle.d_search.proofs.OrderFacts.{same_from_both, point_first}
 use Rattle.d_search.proofs.PlaceFacts.{none_is_some}
@@ -40,7 +40,9 @@ module _ (r : Rules) (m : Meaning) (lawful : IsLawful r m) (budget : ℕ) (o : O
   promise_none : bound_at o.tree 0 ≡ None → IsNoSchedule o → Promise r m budget o
   promise_none none a = record {
     infeasible = λ e z feasible. none_feasible none z feasible;
+    empty = λ e. a;
     schedule = λ apart. absurd (apart a.verdict);
+    bounded = λ apart. absurd (apart a.verdict);
     lower = λ bound e. absurd (none_is_some bound o.lower a.lower e);
     least = λ e. absurd (other Least (λ c. cc) e);
     budget_gap = λ e. absurd (other GapBudget (λ c. cc) e);
@@ -57,11 +59,16 @@ module _ (r : Rules) (m : Meaning) (lawful : IsLawful r m) (budget : ℕ) (o : O
   lower_is None first lower bound e = absurd (none_is_some bound o.lower lower e)
   lower_is (Some k) first lower bound e = subst (IsBound m) (same_Some k.bound bound (sym lower ∙ e)) (first_is_bound r m lawful n o.tree grown k first)
 
+  -- where a schedule is feasible there is a first leaf
+  bounded_is : m.feasible o.schedule → (next : Option Key) → IsFirstOpen r o.tree next → o.lower ≡ option_map (λ (k : Key). k.bound) next → IsBounded o
+  bounded_is feasible None none lower =
+      let low = leaf_below r m lawful n o.tree grown o.schedule feasible in absurd (none-some low.key (sym (none low.number) ∙ low.here))
+  bounded_is feasible (Some k) first lower = (k.bound, lower)
+
   module _ (bill : ℤ) (said : o.bill ≡ Some bill) where
     least_is : IsBillOf m bill o.schedule → (next : Option Key) → IsFirstOpen r o.tree next → o.lower ≡ option_map (λ (k : Key). k.bound) next
         → IsStop budget (length o.tree) Least next bill → IsLeastBill m o
-    least_is kept None none lower stop =
-        let low = leaf_below r m lawful n o.tree grown o.schedule kept.feasible in absurd (none-some low.key (sym (none low.number) ∙ low.here))
+    least_is kept None none lower stop = let has = bounded_is kept.feasible None none lower in absurd (none_is_some has.0 o.lower lower has.1)
     least_is kept (Some k) first lower stop =
         let below = first_is_bound r m lawful n o.tree grown k first in
         let same : k.bound ≡ bill = same_from_both k.bound bill (subst (λ (x : ℤ). k.bound ≤ℤ x) (sym kept.billed) (below o.schedule kept.feasible)) stop in
@@ -81,13 +88,17 @@ module _ (r : Rules) (m : Meaning) (lawful : IsLawful r m) (budget : ℕ) (o : O
     duality_is None none lower stop = absurd stop
     duality_is (Some k) first lower stop = record {
       gap = record { bill = bill; said = said; bound = k.bound; lower = lower; apart = stop.0 };
-      key = k; here = record { here = first.here; lower = lower }; point = stop.1;
+      key = k;
+      here = record { here = first.here; lower = lower };
+      point = stop.1;
     }
 
   promise_some : IsVerdict r budget o → Promise r m budget o
   promise_some a = record {
     infeasible = λ e z feasible. stop_as Infeasible e;
+    empty = λ e. absurd (stop_as Infeasible e);
     schedule = λ apart. (a.bill, a.said, kept);
+    bounded = λ apart. bounded_is kept.feasible a.next a.first a.lower;
     lower = lower_is a.next a.first a.lower;
     least = λ e. least_is a.bill a.said kept a.next a.first a.lower (stop_as Least e);
     budget_gap = λ e. budget_is a.bill a.said a.next a.first a.lower (stop_as GapBudget e);

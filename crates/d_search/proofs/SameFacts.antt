@@ -14,7 +14,7 @@ use Rattle.d_search.specs.Rules.{Rules, IsBelow}
 use Rattle.d_search.specs.Trees.{key_from, key_of, key_at, bound_at, bill_at, IsFirstLeaf, leaf_of, root_alone, after_split, IsSplitOnce}
 use Rattle.d_search.specs.Grown.{IsGrownBy}
 use Rattle.d_search.specs.Outcomes.{IsEarliestLeast, IsKept, IsFirstOpen, IsStop, IsVerdict, IsNoSchedule, IsAnswer, IsOutcome}
-use Rattle.d_search.specs.Laws.{HasOneOutcome}
+use Rattle.d_search.specs.Laws.{HasAtMostOneOutcome}
 use Rattle.d_search.proofs.OrderFacts.{same_number, same_from_both, not_both}
 use Rattle.d_search.proofs.SplitFacts.{HasKey, key_parts, length_split}
 use Rattle.d_search.proofs.GrownFacts.{grown_length, root_only, root_bound}
@@ -217,7 +217,7 @@ answers_same r budget a b None tree x y =
     parts_same a b (x.verdict ∙ sym y.verdict) (x.bill ∙ sym y.bill) (x.lower ∙ sym y.lower) (x.schedule ∙ sym y.schedule) tree
 answers_same r budget a b (Some bound) tree x y = verdicts_same r budget a b tree x y
 
-pub outcome_same : HasOneOutcome
+pub outcome_same : HasAtMostOneOutcome
 outcome_same r budget a b is_a is_b =
     let tree = tree_same r budget a b is_a is_b in
     answers_same r budget a b (bound_at a.tree 0) tree is_a.answer (subst (λ (l : List TreeNode). IsAnswer r budget b (bound_at l 0)) (sym tree) is_b.answer)

@@ -73,7 +73,8 @@ split_cases r before after s P others parent left right j n h =
 
 pub length_after : (r : Rules) (nodes : List TreeNode) (number : ℕ) (n : TreeNode) (split : Split) → length (after_split r nodes number n split) ≡ length nodes + 2
 length_after r nodes number n split = omega (
-  arith, length-append (slice_set nodes number (split_node n split (length nodes))) (halves_of r n split),
+  arith,
+  length-append (slice_set nodes number (split_node n split (length nodes))) (halves_of r n split),
   length-set nodes number (split_node n split (length nodes)),
 )
 

@@ -59,7 +59,8 @@ stood_before r before after s leaf count within =
 part_from_list : (r : Rules) (nodes : List TreeNode) → IsGrownList r nodes → (n : ℕ) → 2 * n < length nodes → IsGrownBy r n (stood (2 * n + 1) nodes)
 part_from_list r nodes grown zero within = grown.root
 part_from_list r nodes grown (suc n) within = (
-  stood (2 * n + 1) nodes, part_from_list r nodes grown n (omega arith),
+  stood (2 * n + 1) nodes,
+  part_from_list r nodes grown n (omega arith),
   subst (λ (count : ℕ). IsSplitOnce r (stood count nodes) (stood (2 * suc n + 1) nodes)) count_is (grown.pairs (suc n) (omega arith) within),
 )
   where

@@ -13,7 +13,7 @@ use Rattle.d_search.specs.Rules.{Rules, IsBelow}
 use Rattle.d_search.specs.Trees.{key_of, key_at, bill_in, bound_at, bill_at, root_alone, IsSplitOnce}
 use Rattle.d_search.specs.Grown.{IsGrownBy}
 use Rattle.d_search.specs.Outcomes.{IsEarliestLeast, IsKept, IsFirstOpen, IsStop, IsVerdict, IsAnswer, IsOutcome}
-use Rattle.d_search.specs.Laws.{AreComplete, HasOutcome}
+use Rattle.d_search.specs.Laws.{BoundsHaveBills, HasExactlyOneOutcome}
 use Rattle.d_search.proofs.OrderFacts.{at_most_none, below_or, key_bound, one_first, first_trans}
 use Rattle.d_search.proofs.PlaceFacts.{none_is_some}
 use Rattle.d_search.proofs.SplitFacts.{key_parts, length_split}
@@ -57,9 +57,11 @@ first_more f n None here (inr old) = inr (record { number = old.number; key = ol
 first_more f n (Some key) here (inr old) = elim (one_first old.key key) [
   | inl first ↦ inr (record { number = old.number; key = old.key; here = old.here; least = with_new old.key first (λ j other below at. old.least j other below at) })
   | inr first ↦ inr (record {
-      number = n; key = key; here = here;
-      least = with_new key (first_itself key) (λ j other below at. first_trans key old.key other first (old.least j other below at));
-    })
+    number = n;
+    key = key;
+    here = here;
+    least = with_new key (first_itself key) (λ j other below at. first_trans key old.key other first (old.least j other below at));
+  })
 ]
   where
     with_new : (best : Key) → ComesFirst best key → ((j : ℕ) (other : Key) → j < n → f j ≡ Some other → ComesFirst best other)
@@ -83,13 +85,16 @@ bill_inside nodes j past = ap (option_and_then bill_in) (slice_get_past nodes j 
 first_open : (r : Rules) (nodes : List TreeNode) → (next : Option Key) × IsFirstOpen r nodes next
 first_open r nodes = elim (has_first (key_at r nodes) (length nodes)) [
   | inl none ↦ (None, λ j. elim (cases_lt j (length nodes)) [ inl inside ↦ none j inside | inr past ↦ key_inside r nodes j past ])
-  | inr found ↦ (Some found.key, record {
+  | inr found ↦ (
+    Some found.key,
+    record {
       here = ap (key_at r nodes) (key_parts r nodes found.number found.key found.here).same ∙ found.here;
       least = λ j other at. elim (cases_lt j (length nodes)) [
         | inl inside ↦ found.least j other inside at
         | inr past ↦ absurd (none_is_some other (key_at r nodes j) (key_inside r nodes j past) at)
       ];
-    })
+    },
+  )
 ]
 
 -- a bill as a key, so that the first of the least bills comes first
@@ -143,7 +148,8 @@ least_bill nodes i some has = by_first (has_first (bill_key_at nodes) (length no
     by_first (inr found) =
         let billed = bill_from found.number (bill_at nodes found.number) found.key found.here in
         record {
-          number = found.number; bill = billed.0;
+          number = found.number;
+          bill = billed.0;
           earliest = earliest_from nodes found.number billed.0 billed.1 (λ j other at. subst (λ (k : Key). ComesFirst k (bill_key j other)) billed.2
               (found.least j (bill_key j other) (inside j other at) (ap (option_map (bill_key j)) at)));
         }
@@ -164,9 +170,15 @@ module _ (r : Rules) (budget n : ℕ) (nodes : List TreeNode) (grown : IsGrownBy
   stopped root has least v next first stop node at = (
     record { verdict = v; bill = Some least.bill; lower = option_map (λ (k : Key). k.bound) next; schedule = r.schedule_of node.space node.node.slopes; tree = nodes },
     record {
-      grown = list_from_grown r n nodes grown; within = within;
+      grown = list_from_grown r n nodes grown;
+      within = within;
       answer = subst (IsAnswer r budget _) (sym has) (record {
-        bill = least.bill; said = refl; next = next; first = first; lower = refl; stop = stop;
+        bill = least.bill;
+        said = refl;
+        next = next;
+        first = first;
+        lower = refl;
+        stop = stop;
         kept = record { number = least.number; earliest = least.earliest; node = node; at = at; schedule = refl };
       });
     },
@@ -204,7 +216,7 @@ module _ (r : Rules) (budget n : ℕ) (nodes : List TreeNode) (grown : IsGrownBy
       ]
 
 -- where the root has a bound it has a bill
-root_bill : (r : Rules) → AreComplete r → (n : ℕ) (nodes : List TreeNode) → IsGrownBy r n nodes → (root : ℤ) → (r.node_of r.root None).bound ≡ Some root
+root_bill : (r : Rules) → BoundsHaveBills r → (n : ℕ) (nodes : List TreeNode) → IsGrownBy r n nodes → (root : ℤ) → (r.node_of r.root None).bound ≡ Some root
     → HasLeastBill nodes
 root_bill r complete n nodes grown root has = by_bill (r.node_of r.root None).bill refl
   where
@@ -216,7 +228,7 @@ root_bill r complete n nodes grown root has = by_bill (r.node_of r.root None).bi
     by_bill (Some bill) billed = least_bill nodes 0 bill (ap (option_and_then bill_in) first.at ∙ (ap (λ node. node.bill) first.node ∙ billed))
 
 -- the splits go on for as long as the budget allows
-go_on : (r : Rules) → AreComplete r → (budget : ℕ) (root : ℤ) → (r.node_of r.root None).bound ≡ Some root → (fuel n : ℕ) (nodes : List TreeNode)
+go_on : (r : Rules) → BoundsHaveBills r → (budget : ℕ) (root : ℤ) → (r.node_of r.root None).bound ≡ Some root → (fuel n : ℕ) (nodes : List TreeNode)
     → IsGrownBy r n nodes → length nodes ≤ budget → budget ≤ length nodes + fuel → IsThere r budget
 go_on r complete budget root has zero n nodes grown within left =
     elim (outcome_or r budget n nodes grown within root (root_bound r n nodes grown ∙ has) (root_bill r complete n nodes grown root has)) [
@@ -233,17 +245,18 @@ go_on r complete budget root has (suc fuel) n nodes grown within left =
     ]
 
 -- an outcome, by the bound of the root
-by_root : (r : Rules) → AreComplete r → (budget : ℕ) → 1 ≤ budget → (root : Option ℤ) → (r.node_of r.root None).bound ≡ root → IsThere r budget
+by_root : (r : Rules) → BoundsHaveBills r → (budget : ℕ) → 1 ≤ budget → (root : Option ℤ) → (r.node_of r.root None).bound ≡ root → IsThere r budget
 by_root r complete budget some (Some root) has = go_on r complete budget root has budget 0 (root_alone r) refl some (omega arith)
 by_root r complete budget some None none = (
   record { verdict = Infeasible; bill = None; lower = None; schedule = []; tree = root_alone r },
   record {
-    grown = list_from_grown r 0 (root_alone r) refl; within = some;
+    grown = list_from_grown r 0 (root_alone r) refl;
+    within = some;
     answer = subst (IsAnswer r budget _) (sym none) (record { verdict = refl; bill = refl; lower = refl; schedule = refl });
   },
 )
 
-pub outcome_there : HasOutcome
+pub outcome_there : HasExactlyOneOutcome
 outcome_there r budget complete some =
     let there = by_root r complete budget some (r.node_of r.root None).bound refl in
     (there.0, record { is = there.1; only = λ other h. outcome_same r budget other there.0 h there.1 })

@@ -9,8 +9,8 @@ use Rattle.d_search.specs.Outcomes.{IsOutcome}
 use Rattle.d_search.specs.Promises.{Promise}
 
 -- two outcomes of the same rules and the same budget are the same
-abbrev pub HasOneOutcome : Type 0
-HasOneOutcome = (r : Rules) (budget : ℕ) (a b : Outcome) → IsOutcome r budget a → IsOutcome r budget b → a ≡ b
+abbrev pub HasAtMostOneOutcome : Type 0
+HasAtMostOneOutcome = (r : Rules) (budget : ℕ) (a b : Outcome) → IsOutcome r budget a → IsOutcome r budget b → a ≡ b
 
 -- this outcome and no other
 pub record IsOnlyOutcome (r : Rules) (budget : ℕ) (o : Outcome) : Type 0 where
@@ -18,12 +18,12 @@ pub record IsOnlyOutcome (r : Rules) (budget : ℕ) (o : Outcome) : Type 0 where
   pub only : (other : Outcome) → IsOutcome r budget other → other ≡ o
 
 -- the rules give each box a bound exactly where they give it a bill
-abbrev pub AreComplete : Rules → Type 0
-AreComplete r = (space : Space) (parent : Option Slopes) → ComeTogether (r.node_of space parent)
+abbrev pub BoundsHaveBills : Rules → Type 0
+BoundsHaveBills r = (space : Space) (parent : Option Slopes) → ComeTogether (r.node_of space parent)
 
 -- where they do, a budget of at least one node has exactly one outcome
-abbrev pub HasOutcome : Type 0
-HasOutcome = (r : Rules) (budget : ℕ) → AreComplete r → 1 ≤ budget → (o : Outcome) × IsOnlyOutcome r budget o
+abbrev pub HasExactlyOneOutcome : Type 0
+HasExactlyOneOutcome = (r : Rules) (budget : ℕ) → BoundsHaveBills r → 1 ≤ budget → (o : Outcome) × IsOnlyOutcome r budget o
 
 -- an outcome keeps its promises, where the rules are lawful
 abbrev pub OutcomesKeepPromises : Type 1

@@ -8,6 +8,7 @@ use Rattle.d_search.specs.declared.outcome.Outcome.{Outcome}
 use Rattle.d_search.specs.declared.outcome.Verdict.TheVariants.{Least, GapBudget, GapDuality, Infeasible}
 use Rattle.d_search.specs.Rules.{Rules, Meaning, IsBillOf}
 use Rattle.d_search.specs.Trees.{key_at, bound_at}
+use Rattle.d_search.specs.Outcomes.{IsNoSchedule}
 
 -- no feasible schedule has a bill below this
 abbrev pub IsBound : Meaning → ℤ → Type 0
@@ -16,6 +17,10 @@ IsBound m bound = (z : List ℕ) → m.feasible z → bound ≤ℤ m.bill_of z
 -- the bill is that of a feasible schedule, which the outcome has
 abbrev pub IsReached : Meaning → Outcome → Type 0
 IsReached m o = (bill : ℤ) × (o.bill ≡ Some bill) × IsBillOf m bill o.schedule
+
+-- the outcome has a bound
+abbrev pub IsBounded : Outcome → Type 0
+IsBounded o = (bound : ℤ) × (o.lower ≡ Some bound)
 
 -- the bill is the least of all, and the bound says so
 pub record IsLeastBill (m : Meaning) (o : Outcome) : Type 0 where
@@ -69,7 +74,9 @@ pub record IsDualityGap (r : Rules) (o : Outcome) : Type 0 where
 -- what an outcome promises
 pub record Promise (r : Rules) (m : Meaning) (budget : ℕ) (o : Outcome) : Type 0 where
   pub infeasible : o.verdict ≡ Infeasible → (z : List ℕ) → m.feasible z → ⊥
+  pub empty : o.verdict ≡ Infeasible → IsNoSchedule o
   pub schedule : o.verdict ≢ Infeasible → IsReached m o
+  pub bounded : o.verdict ≢ Infeasible → IsBounded o
   pub lower : (bound : ℤ) → o.lower ≡ Some bound → IsBound m bound
   pub least : o.verdict ≡ Least → IsLeastBill m o
   pub budget_gap : o.verdict ≡ GapBudget → IsBudgetGap r budget o

@@ -8,7 +8,6 @@ mod law;
 mod outcome;
 mod tree;
 
-
 pub use law::{one_outcome, outcomes_are_there};
 pub use outcome::{Modes, Outcome, Verdict};
 pub use tree::{Tree, TreeNode};
