@@ -1,13 +1,11 @@
 -- What the heap's steps do to the keys that a front shows.
-use Rattle.std.proofs.Common.{ℕ, ◌≡◌, ◌<◌, ◌∙◌, List, ◌∷◌, Some, length, subst, ap, sym, get_or, refl}
+use Rattle.std.proofs.Common.{◌≡◌, ◌<◌, ◌∙◌, List, ◌∷◌, Some, length, subst, ap, sym, get_or}
 use Rattle.std.specs.BinaryHeap.{IsUpperBound}
-use Rattle.std.specs.List.{All, Contains}
 use Rattle.std.specs.List.Sorted.{IsPermutation}
 use Rattle.std.specs.declared.cmp.Reverse.{Reverse}
 use Rattle.std.proofs.lemmas.List.{get_or-map, length-map}
 use Rattle.std.proofs.lemmas.List.Sorted.{IsPermutation-map, IsPermutation-sym}
 use Rattle.d_front.specs.declared.key.Key.{Key}
-use Rattle.d_front.specs.Keys.{ComesFirst}
 use Rattle.d_front.specs.Fronts.{shown, last_cmp, IsFirst, IsTaken}
 use Rattle.d_front.proofs.FirstFacts.{all_first}
 

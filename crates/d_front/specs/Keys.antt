@@ -15,6 +15,6 @@ abbrev pub ComesFirst : Key → Key → Type 0
 ComesFirst a b =
     (a.bound <ℤ b.bound) ⊎ ((a.bound ≡ b.bound) × ((rank a.point < rank b.point) ⊎ ((rank a.point ≡ rank b.point) × (a.node ≤ b.node))))
 
--- the same as a comparison: `Less` where the one comes first and is another, `Equal` where both are the same
+-- how the heap compares two keys: part by part, in the same order
 abbrev pub key_cmp : Key → Key → Ordering
 key_cmp = then_cmp (then_cmp (on (λ k. k.bound) int_cmp) (flip_args (on (λ k. k.point) bool_cmp))) (on (λ k. k.node) nat_cmp)
