@@ -1,7 +1,7 @@
 -- How the bounds of a grown tree go: they never fall to a half, and no node that was split has a bound above a leaf's.
-use Rattle.std.proofs.Common.{◌≡◌, ◌≢◌, ◌⊎◌, inl, inr, ℕ, zero, suc, ◌+◌, ◌<◌, ℤ, List, [], ◌∷◌, Option, Some, None, length, slice_get, option_and_then, arith, sym, refl, ap, subst, ◌∙◌}
+use Rattle.std.proofs.Common.{◌≡◌, inl, inr, ℕ, zero, suc, ◌<◌, ℤ, List, [], ◌∷◌, Option, Some, None, length, slice_get, option_and_then, arith, sym, refl, ap, subst, ◌∙◌}
 use Rattle.std.proofs.lemmas.Bool.{cases_eq}
-use Rattle.std.proofs.lemmas.Option.{slice_get_within, same_Some, none-some}
+use Rattle.std.proofs.lemmas.Option.{none-some}
 use Rattle.d_box.specs.declared.space.Split.{Split}
 use Rattle.d_bound.specs.BoxLaws.{IsAtMost}
 use Rattle.d_search.specs.declared.tree.TreeNode.{TreeNode}
@@ -10,7 +10,7 @@ use Rattle.d_search.specs.Trees.{bound_in, bound_at, split_node, left_leaf, righ
 use Rattle.d_search.specs.Grown.{IsGrownBy}
 use Rattle.d_search.specs.Promises.{IsBelowHalves, BoundsNeverFall, SplitsAreBelowLeaves}
 use Rattle.d_search.proofs.OrderFacts.{at_most_none, at_most_refl, at_most_trans, key_bound}
-use Rattle.d_search.proofs.SplitFacts.{key_there, key_parent, split_cases, split_other, split_same, split_left, split_right, length_split}
+use Rattle.d_search.proofs.SplitFacts.{key_there, key_parent, split_cases, split_other, split_same, split_left, split_right}
 use Rattle.d_search.proofs.GrownFacts.{root_only, boxes_made, grown_numbered, IsNumbered, split_rises}
 
 pub got_at : (nodes : List TreeNode) (i : ℕ) → i < length nodes → (n : TreeNode) × (slice_get nodes i ≡ Some n)

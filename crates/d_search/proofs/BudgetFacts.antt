@@ -1,18 +1,17 @@
 -- A budget of twice what the root counts, less one, suffices.
-use Rattle.std.proofs.Common.{◌≡◌, ◌⊎◌, inl, inr, ℕ, zero, suc, ◌+◌, ◌*◌, ◌<◌, ◌≤◌, ℤ, List, Option, Some, None, Bool, true, false, is_none, length, slice_get, option_and_then, arith, sym, refl, ap, subst, ◌∙◌}
+use Rattle.std.proofs.Common.{◌≡◌, ◌⊎◌, inl, inr, ℕ, suc, ◌+◌, ◌*◌, ◌<◌, ◌≤◌, ℤ, List, Option, Some, None, true, false, is_none, length, option_and_then, arith, sym, refl, ap, subst, ◌∙◌}
 use Rattle.std.proofs.lemmas.Bool.{true≢false}
 use Rattle.d_box.specs.declared.space.Space.{Space}
 use Rattle.d_box.specs.declared.space.Split.{Split}
 use Rattle.d_front.specs.declared.key.Key.{Key}
 use Rattle.d_bound.specs.BoxLaws.{IsAtMost}
 use Rattle.d_search.specs.declared.tree.TreeNode.{TreeNode}
-use Rattle.d_search.specs.declared.outcome.Outcome.{Outcome}
 use Rattle.d_search.specs.declared.outcome.Verdict.{Verdict}
 use Rattle.d_search.specs.declared.outcome.Verdict.TheVariants.{Least, GapBudget, GapDuality, Infeasible}
 use Rattle.d_search.specs.Rules.{Rules, Meaning, IsLawful, IsCounted, IsBelow}
 use Rattle.d_search.specs.Trees.{bill_in, bound_at, bill_at, IsFirstLeaf, after_split, IsSplitOnce}
 use Rattle.d_search.specs.Grown.{IsGrownBy}
-use Rattle.d_search.specs.Outcomes.{IsEarliestLeast, IsFirstOpen, IsStop, IsVerdict, IsAnswer, IsOutcome}
+use Rattle.d_search.specs.Outcomes.{IsEarliestLeast, IsFirstOpen, IsStop, IsAnswer}
 use Rattle.d_search.specs.Laws.{IsDecided, BudgetsSuffice}
 use Rattle.d_search.proofs.OrderFacts.{at_most_trans, not_both, below_at_most}
 use Rattle.d_search.proofs.SplitFacts.{key_parts}

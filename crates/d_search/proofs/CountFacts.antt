@@ -1,16 +1,15 @@
 -- How large a grown tree can become, where boxes are counted: each leaf but one box's worth is left to split.
-use Rattle.std.proofs.Common.{◌≡◌, ◌≢◌, ◌⊎◌, inl, inr, ℕ, zero, suc, ◌+◌, ◌-◌, ◌*◌, ◌<◌, ◌≤◌, ℤ, List, [], ◌∷◌, ◌++◌, Option, Some, None, true, false, is_none, length, slice_get, slice_set, sum_by, arith, sym, refl, ap, subst, ◌∙◌}
+use Rattle.std.proofs.Common.{◌≡◌, ℕ, zero, suc, ◌+◌, ◌-◌, ◌≤◌, List, [], ◌∷◌, ◌++◌, Option, Some, None, length, slice_get, slice_set, sum_by, arith, ap, ◌∙◌}
 use Rattle.std.proofs.lemmas.List.Sums.{sum_by-cons, sum_by-append}
 use Rattle.std.proofs.lemmas.Option.{same_Some, none-some}
 use Rattle.d_box.specs.declared.space.Space.{Space}
 use Rattle.d_box.specs.declared.space.Split.{Split}
-use Rattle.d_bound.specs.BoxLaws.{IsAtMost}
 use Rattle.d_search.specs.declared.tree.TreeNode.{TreeNode}
 use Rattle.d_search.specs.Rules.{Rules, Meaning, IsLawful, IsCounted}
-use Rattle.d_search.specs.Trees.{split_node, left_leaf, right_leaf, halves_of, after_split, IsSplitOnce}
+use Rattle.d_search.specs.Trees.{split_node, left_leaf, right_leaf, IsSplitOnce}
 use Rattle.d_search.specs.Grown.{IsGrownBy}
 use Rattle.d_search.proofs.SplitFacts.{key_parent}
-use Rattle.d_search.proofs.GrownFacts.{IsMade, boxes_made}
+use Rattle.d_search.proofs.GrownFacts.{boxes_made}
 
 -- what a leaf's box counts but for one; 0 for a node that was split
 abbrev pub spare_in : ℕ → Option Split → ℕ

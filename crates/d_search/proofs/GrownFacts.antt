@@ -1,7 +1,7 @@
 -- Trees that were grown: how many nodes there are, what they are, and how their bounds go.
-use Rattle.std.proofs.Common.{◌≡◌, ◌≢◌, ◌⊎◌, inl, inr, ℕ, zero, suc, ◌+◌, ◌*◌, ◌<◌, ◌≤◌, ℤ, List, [], ◌∷◌, Option, Some, None, length, slice_get, option_and_then, arith, sym, refl, ap, subst, ◌∙◌}
-use Rattle.std.proofs.lemmas.Bool.{cases_eq, cases_lt}
-use Rattle.std.proofs.lemmas.Option.{slice_get_within, slice_get_past, same_Some, none-some}
+use Rattle.std.proofs.Common.{◌≡◌, inl, inr, ℕ, zero, suc, ◌+◌, ◌*◌, ◌<◌, List, Option, Some, None, length, slice_get, option_and_then, arith, sym, refl, ap, subst, ◌∙◌}
+use Rattle.std.proofs.lemmas.Bool.{cases_eq}
+use Rattle.std.proofs.lemmas.Option.{same_Some, none-some}
 use Rattle.d_box.specs.declared.space.Space.{Space}
 use Rattle.d_box.specs.declared.space.Split.{Split}
 use Rattle.d_box.specs.declared.slopes.Slopes.{Slopes}
@@ -10,10 +10,7 @@ use Rattle.d_search.specs.declared.tree.TreeNode.{TreeNode}
 use Rattle.d_search.specs.Rules.{Rules, Meaning, IsLawful, IsRisingTo}
 use Rattle.d_search.specs.Trees.{bound_in, bound_at, leaf_of, root_alone, split_node, left_leaf, right_leaf, IsSplitOnce}
 use Rattle.d_search.specs.Grown.{as_leaf, IsGrownBy}
-use Rattle.d_search.specs.Promises.{IsBelowHalves, BoundsNeverFall, SplitsAreBelowLeaves}
-use Rattle.d_search.proofs.OrderFacts.{at_most_none, at_most_refl, at_most_trans, key_bound}
-use Rattle.d_search.proofs.PlaceFacts.{none_is_some}
-use Rattle.d_search.proofs.SplitFacts.{key_there, key_parent, split_cases, split_other, split_same, split_left, split_right, length_split}
+use Rattle.d_search.proofs.SplitFacts.{split_cases, split_other, split_same, length_split}
 
 -- the root alone is one leaf
 pub root_only : (r : Rules) (nodes : List TreeNode) → nodes ≡ root_alone r → (P : ℕ → TreeNode → Type 0) → P 0 (leaf_of r r.root None)

@@ -1,5 +1,5 @@
 -- Each feasible schedule is held by a leaf, so that the first leaf's bound isn't above its bill.
-use Rattle.std.proofs.Common.{◌≡◌, ◌≢◌, ◌⊎◌, inl, inr, ℕ, zero, suc, ◌+◌, ℤ, ◌≤ℤ◌, List, Option, Some, None, is_none, length, slice_get, arith, sym, refl, ap, subst, ◌∙◌}
+use Rattle.std.proofs.Common.{◌≡◌, ◌⊎◌, inl, inr, ℕ, zero, suc, ◌+◌, ℤ, ◌≤ℤ◌, List, Option, Some, None, is_none, length, slice_get, arith, sym, refl, ap, subst, ◌∙◌}
 use Rattle.std.proofs.lemmas.Bool.{cases_eq}
 use Rattle.std.proofs.lemmas.Option.{same_Some}
 use Rattle.std.proofs.lemmas.Int.{ints}
@@ -7,12 +7,12 @@ use Rattle.d_bound.specs.BoxLaws.{IsAtMost}
 use Rattle.d_front.specs.declared.key.Key.{Key}
 use Rattle.d_search.specs.declared.tree.TreeNode.{TreeNode}
 use Rattle.d_search.specs.Rules.{Rules, Meaning, IsLawful}
-use Rattle.d_search.specs.Trees.{key_at, IsFirstLeaf, leaf_of, split_node, left_leaf, right_leaf, IsSplitOnce}
+use Rattle.d_search.specs.Trees.{key_at, IsFirstLeaf, leaf_of, left_leaf, right_leaf, IsSplitOnce}
 use Rattle.d_search.specs.Grown.{IsGrownBy}
 use Rattle.d_search.specs.Promises.{IsBound}
 use Rattle.d_search.proofs.OrderFacts.{key_bound}
 use Rattle.d_search.proofs.SplitFacts.{key_there, split_other, split_left, split_right}
-use Rattle.d_search.proofs.GrownFacts.{IsMade, boxes_made}
+use Rattle.d_search.proofs.GrownFacts.{boxes_made}
 
 -- a leaf that holds the schedule
 pub record IsHeld (m : Meaning) (nodes : List TreeNode) (z : List ℕ) : Type 0 where

@@ -1,6 +1,6 @@
 -- Numbers that may be none, and the order of keys.
-use Rattle.std.proofs.Common.{◌≡◌, ◌⊎◌, inl, inr, ℕ, ◌<◌, ◌≤◌, ℤ, ◌≤ℤ◌, ◌<ℤ◌, Option, Some, None, Bool, true, false, arith, sym, refl}
-use Rattle.std.proofs.lemmas.Bool.{cases_lt, cases_Bool}
+use Rattle.std.proofs.Common.{◌≡◌, ◌⊎◌, inl, inr, ◌<◌, ◌≤◌, ℤ, ◌≤ℤ◌, Option, Some, None, Bool, true, false, arith, sym, refl}
+use Rattle.std.proofs.lemmas.Bool.{cases_lt}
 use Rattle.std.proofs.lemmas.Int.{ints, by_lt_z}
 use Rattle.d_bound.specs.BoxLaws.{IsAtMost}
 use Rattle.d_front.specs.declared.key.Key.{Key}

@@ -1,6 +1,5 @@
 -- What an outcome promises, where the rules are lawful.
-use Rattle.std.proofs.Common.{◌≡◌, ◌≢◌, ◌⊎◌, inl, inr, ℕ, zero, suc, ◌+◌, ◌*◌, ◌<◌, ◌≤◌, ℤ, ◌≤ℤ◌, List, Option, Some, None, Bool, true, false, is_none, length, slice_get, option_map, option_and_then, arith, sym, refl, ap, subst, ◌∙◌}
-use Rattle.std.proofs.lemmas.Int.{ints}
+use Rattle.std.proofs.Common.{◌≡◌, ℕ, ℤ, ◌≤ℤ◌, List, Option, Some, None, length, option_map, option_and_then, sym, refl, ap, subst, ◌∙◌}
 use Rattle.std.proofs.lemmas.Option.{same_Some, none-some}
 use Rattle.d_front.specs.declared.key.Key.{Key}
 use Rattle.d_search.specs.declared.tree.TreeNode.{TreeNode}
@@ -9,10 +8,10 @@ use Rattle.d_search.specs.declared.outcome.Verdict.{Verdict}
 use Rattle.d_search.specs.declared.outcome.Verdict.TheVariants.{Least, GapBudget, GapDuality, Infeasible}
 use Rattle.d_bound.specs.BoxLaws.{IsAtMost}
 use Rattle.d_search.specs.Rules.{Rules, Meaning, IsLawful, IsBillOf}
-use Rattle.d_search.specs.Trees.{bill_in, bound_at, bill_at}
+use Rattle.d_search.specs.Trees.{bill_in, bound_at}
 use Rattle.d_search.specs.Grown.{IsGrownBy}
-use Rattle.d_search.specs.Outcomes.{IsKept, IsFirstOpen, IsStop, IsVerdict, IsNoSchedule, IsAnswer, IsOutcome}
-use Rattle.d_search.specs.Promises.{IsBound, IsReached, IsBounded, IsLeastBill, HasGap, IsAtBound, IsBudgetGap, IsDualityGap, Promise}
+use Rattle.d_search.specs.Outcomes.{IsKept, IsFirstOpen, IsStop, IsVerdict, IsNoSchedule, IsAnswer}
+use Rattle.d_search.specs.Promises.{IsBound, IsBounded, IsLeastBill, IsBudgetGap, IsDualityGap, Promise}
 use Rattle.d_search.specs.Laws.{OutcomesKeepPromises}
 use Rattle.d_search.proofs.OrderFacts.{same_from_both, point_first}
 use Rattle.d_search.proofs.PlaceFacts.{none_is_some}

@@ -1,6 +1,6 @@
 -- At most one outcome: two that meet the definition are the same.
-use Rattle.std.proofs.Common.{◌≡◌, ◌≢◌, ◌⊎◌, inl, inr, ℕ, zero, suc, ◌+◌, ◌*◌, ◌<◌, ◌≤◌, ℤ, List, Option, Some, None, Bool, true, false, is_none, length, slice_get, option_map, option_and_then, arith, sym, refl, ap, subst, ◌∙◌}
-use Rattle.std.proofs.lemmas.Bool.{cases_eq, cases_lt, cases_order, true≢false}
+use Rattle.std.proofs.Common.{◌≡◌, inl, inr, ℕ, zero, suc, ◌<◌, ◌≤◌, ℤ, List, Option, Some, None, false, is_none, length, slice_get, option_map, arith, sym, refl, ap, subst, ◌∙◌}
+use Rattle.std.proofs.lemmas.Bool.{cases_eq, cases_order, true≢false}
 use Rattle.std.proofs.lemmas.Int.{ints}
 use Rattle.std.proofs.lemmas.Option.{same_Some, none-some}
 use Rattle.d_box.specs.declared.space.Split.{Split}
@@ -11,12 +11,12 @@ use Rattle.d_search.specs.declared.outcome.Outcome.{Outcome}
 use Rattle.d_search.specs.declared.outcome.Verdict.{Verdict}
 use Rattle.d_search.specs.declared.outcome.Verdict.TheVariants.{Least, GapBudget, GapDuality, Infeasible}
 use Rattle.d_search.specs.Rules.{Rules, IsBelow}
-use Rattle.d_search.specs.Trees.{key_from, key_of, key_at, bound_at, bill_at, IsFirstLeaf, leaf_of, root_alone, after_split, IsSplitOnce}
+use Rattle.d_search.specs.Trees.{key_at, bound_at, bill_at, IsFirstLeaf, after_split, IsSplitOnce}
 use Rattle.d_search.specs.Grown.{IsGrownBy}
-use Rattle.d_search.specs.Outcomes.{IsEarliestLeast, IsKept, IsFirstOpen, IsStop, IsVerdict, IsNoSchedule, IsAnswer, IsOutcome}
+use Rattle.d_search.specs.Outcomes.{IsEarliestLeast, IsKept, IsFirstOpen, IsStop, IsVerdict, IsAnswer, IsOutcome}
 use Rattle.d_search.specs.Laws.{HasAtMostOneOutcome}
 use Rattle.d_search.proofs.OrderFacts.{same_number, same_from_both, not_both}
-use Rattle.d_search.proofs.SplitFacts.{HasKey, key_parts, length_split}
+use Rattle.d_search.proofs.SplitFacts.{key_parts, length_split}
 use Rattle.d_search.proofs.GrownFacts.{grown_length, root_only, root_bound}
 use Rattle.d_search.proofs.StoodFacts.{splits_of, grown_from_list}
 

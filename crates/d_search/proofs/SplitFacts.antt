@@ -1,13 +1,13 @@
 -- Keys of nodes, and what one split makes of the nodes.
-use Rattle.std.proofs.Common.{◌≡◌, ◌≢◌, ◌⊎◌, inl, inr, ℕ, ◌+◌, ◌<◌, ℤ, List, [], ◌∷◌, ◌++◌, Option, Some, None, Bool, true, false, is_none, length, slice_get, slice_set, option_and_then, length-append, length-set, arith, sym, refl, ap, subst, ◌∙◌}
-use Rattle.std.proofs.lemmas.Option.{slice_get_within, slice_get_past, same_Some, none-some}
+use Rattle.std.proofs.Common.{◌≡◌, ◌≢◌, ℕ, ◌+◌, ℤ, List, ◌++◌, Option, Some, None, is_none, length, slice_get, slice_set, option_and_then, length-append, length-set, arith, sym, refl, ap, subst, ◌∙◌}
+use Rattle.std.proofs.lemmas.Option.{slice_get_within, same_Some, none-some}
 use Rattle.d_box.specs.declared.space.Space.{Space}
 use Rattle.d_box.specs.declared.space.Split.{Split}
 use Rattle.d_front.specs.declared.key.Key.{Key}
 use Rattle.d_search.specs.declared.tree.TreeNode.{TreeNode}
 use Rattle.d_search.specs.Rules.{Rules}
-use Rattle.d_search.specs.Trees.{key_from, key_of, key_at, bound_at, IsFirstLeaf, split_node, left_leaf, right_leaf, halves_of, after_split, IsSplitOnce}
-use Rattle.d_search.proofs.PlaceFacts.{none_is_some, get_set_same, get_set_other, get_front, get_behind, after_cases}
+use Rattle.d_search.specs.Trees.{key_from, key_of, key_at, split_node, left_leaf, right_leaf, halves_of, after_split, IsSplitOnce}
+use Rattle.d_search.proofs.PlaceFacts.{get_set_same, get_set_other, get_front, get_behind, after_cases}
 
 -- the node that has a key: a leaf with a bound
 pub record HasKey (r : Rules) (nodes : List TreeNode) (number : ℕ) (key : Key) : Type 0 where

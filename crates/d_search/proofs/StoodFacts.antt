@@ -1,14 +1,14 @@
 -- Trees as they stood: both forms of a grown tree are the same.
-use Rattle.std.proofs.Common.{◌≡◌, ◌≢◌, ◌⊎◌, inl, inr, ℕ, zero, suc, ◌+◌, ◌-◌, ◌*◌, ◌<◌, ◌≤◌, List, [], ◌∷◌, ◌++◌, Option, Some, None, Bool, true, false, cond, ltb, length, map, take, take_all, slice_get, slice_set, length-append, length-set, le-ltb, lt-ltb, arith, sym, refl, ap, ap₂, subst, ◌∙◌}
-use Rattle.std.proofs.lemmas.Bool.{cases_lt, cases_eq}
+use Rattle.std.proofs.Common.{◌≡◌, inl, inr, ℕ, zero, suc, ◌+◌, ◌-◌, ◌*◌, ◌<◌, ◌≤◌, List, [], ◌∷◌, Some, Bool, true, false, cond, ltb, length, map, take, take_all, slice_get, slice_set, length-set, le-ltb, lt-ltb, arith, sym, refl, ap, ap₂, subst, ◌∙◌}
+use Rattle.std.proofs.lemmas.Bool.{cases_lt}
 use Rattle.std.proofs.lemmas.List.{take-append-le}
 use Rattle.std.proofs.lemmas.Option.{same_Some, none-some}
 use Rattle.d_box.specs.declared.space.Split.{Split}
 use Rattle.d_search.specs.declared.tree.TreeNode.{TreeNode}
 use Rattle.d_search.specs.Rules.{Rules}
-use Rattle.d_search.specs.Trees.{root_alone, leaf_of, split_node, halves_of, IsSplitOnce}
-use Rattle.d_search.specs.Grown.{as_leaf, stood_at, stood, IsGrownList, IsGrownBy}
-use Rattle.d_search.proofs.SplitFacts.{key_parent, length_split}
+use Rattle.d_search.specs.Trees.{split_node, halves_of, IsSplitOnce}
+use Rattle.d_search.specs.Grown.{as_leaf, stood_at, stood, IsGrownList, IsGrownBy, IsGrown}
+use Rattle.d_search.proofs.SplitFacts.{key_parent}
 use Rattle.d_search.proofs.GrownFacts.{grown_length, grown_numbered}
 
 -- a node whose left half is among those counted stands as it is
@@ -128,3 +128,10 @@ list_from_grown r zero nodes grown = record {
     none : (pair : ℕ) → 1 ≤ pair → 2 * pair < length nodes → ⊥
     none pair some within = omega (arith, grown_length r zero nodes grown)
 list_from_grown r (suc n) nodes grown = list_after r n grown.0 nodes grown.2 grown.1 grown (list_from_grown r n grown.0 grown.1)
+
+-- both forms are the same
+pub is_grown : (r : Rules) (nodes : List TreeNode) → IsGrownList r nodes → IsGrown r nodes
+is_grown r nodes grown = (splits_of r nodes grown, grown_from_list r nodes grown)
+
+pub is_grown_list : (r : Rules) (nodes : List TreeNode) → IsGrown r nodes → IsGrownList r nodes
+is_grown_list r nodes grown = list_from_grown r grown.0 nodes grown.1

@@ -1,5 +1,5 @@
 -- At least one outcome: the splits go on until there is a reason to stop.
-use Rattle.std.proofs.Common.{◌≡◌, ◌⊎◌, inl, inr, ℕ, zero, suc, ◌+◌, ◌*◌, ◌<◌, ◌≤◌, ℤ, List, [], Option, Some, None, Bool, true, false, length, slice_get, option_map, option_and_then, arith, sym, refl, ap, subst, ◌∙◌}
+use Rattle.std.proofs.Common.{◌≡◌, ◌⊎◌, inl, inr, ℕ, zero, suc, ◌+◌, ◌<◌, ◌≤◌, ℤ, List, [], Option, Some, None, false, length, slice_get, option_map, option_and_then, arith, sym, refl, ap, subst, ◌∙◌}
 use Rattle.std.proofs.lemmas.Bool.{cases_eq, cases_lt, cases_Bool}
 use Rattle.std.proofs.lemmas.Option.{slice_get_past, same_Some, none-some}
 use Rattle.d_front.specs.declared.key.Key.{Key}
@@ -12,9 +12,9 @@ use Rattle.d_search.specs.declared.outcome.Verdict.TheVariants.{Least, GapBudget
 use Rattle.d_search.specs.Rules.{Rules, IsBelow}
 use Rattle.d_search.specs.Trees.{key_of, key_at, bill_in, bound_at, bill_at, root_alone, IsSplitOnce}
 use Rattle.d_search.specs.Grown.{IsGrownBy}
-use Rattle.d_search.specs.Outcomes.{IsEarliestLeast, IsKept, IsFirstOpen, IsStop, IsVerdict, IsAnswer, IsOutcome}
+use Rattle.d_search.specs.Outcomes.{IsEarliestLeast, IsFirstOpen, IsStop, IsAnswer, IsOutcome}
 use Rattle.d_search.specs.Laws.{BoundsHaveBills, HasExactlyOneOutcome}
-use Rattle.d_search.proofs.OrderFacts.{at_most_none, below_or, key_bound, one_first, first_trans}
+use Rattle.d_search.proofs.OrderFacts.{below_or, key_bound, one_first, first_trans}
 use Rattle.d_search.proofs.PlaceFacts.{none_is_some}
 use Rattle.d_search.proofs.SplitFacts.{key_parts, length_split}
 use Rattle.d_search.proofs.GrownFacts.{IsRootAt, grown_root, root_bound}

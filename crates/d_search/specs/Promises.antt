@@ -1,5 +1,5 @@
 -- What an outcome promises, where the rules are lawful. All of it is our own rule.
-use Rattle.std.specs.Prelude.{◌≡◌, ◌≢◌, ℕ, ◌+◌, ◌<◌, ℤ, ◌≤ℤ◌, ◌<ℤ◌, List, Option, Some, None, true, false, length, slice_get}
+use Rattle.std.specs.Prelude.{◌≡◌, ◌≢◌, ℕ, ◌+◌, ◌<◌, ℤ, ◌≤ℤ◌, ◌<ℤ◌, List, Some, None, true, false, length, slice_get}
 use Rattle.d_bound.specs.BoxLaws.{IsAtMost}
 use Rattle.d_box.specs.declared.space.Split.{Split}
 use Rattle.d_front.specs.declared.key.Key.{Key}
