@@ -1,0 +1,12 @@
+mod OrderFacts
+mod PlaceFacts
+mod SplitFacts
+mod GrownFacts
+mod BoundFacts
+mod HeldFacts
+mod CountFacts
+mod StoodFacts
+mod SameFacts
+pub mod PromiseFacts
+pub mod BudgetFacts
+mod ThereFacts

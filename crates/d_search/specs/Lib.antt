@@ -1,0 +1,6 @@
+pub mod Rules
+pub mod Trees
+pub mod Grown
+pub mod Outcomes
+pub mod Promises
+pub mod Laws
