@@ -4,3 +4,4 @@ pub mod Grown
 pub mod Outcomes
 pub mod Promises
 pub mod Laws
+pub mod Problems
