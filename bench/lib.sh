@@ -12,17 +12,17 @@ lend() {
     done
 }
 
-# build NAME FOLDER CRATE ...: proves and builds the program of bench/FOLDER over these crates, with the invariants of its functions, and
-# names it in `program`
+# build NAME FOLDER CRATE ...: proves and builds the program of bench/FOLDER over these crates, with the invariants and answers of its
+# functions, and names it in `program`
 build() {
     crate=$work/crates/$1
     folder=$2
     mkdir -p "$crate/src"
     cp "$top/bench/$folder/main.rt.txt" "$crate/src/main.rt"
-    for file in "$top/bench/$folder"/*.Invariants.antt.txt; do
+    for file in "$top/bench/$folder"/*.antt.txt; do
         [ -f "$file" ] || continue
-        name=$(basename "$file" .Invariants.antt.txt)
-        mkdir -p "$crate/proofs/$name" && cp "$file" "$crate/proofs/$name/Invariants.antt"
+        name=$(basename "$file" .antt.txt)
+        mkdir -p "$crate/proofs/${name%.*}" && cp "$file" "$crate/proofs/${name%.*}/${name##*.}.antt"
     done
     line="$1:"
     shift 2
