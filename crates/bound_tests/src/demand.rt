@@ -1,7 +1,7 @@
 //! February 2025 with flat demand: as much is used in each interval as a step of the battery's level, and five times as much in the one that
 //! begins on the 12th at noon. Energy is 0.10 USD per kWh, and the month's highest demand 10 USD per kW.
 
-ghost use Rattle.std.specs.Prelude.{◌≡◌, [], IsTrue, IfSome, IfOk};
+ghost use Rattle.std.specs.Prelude.{◌≡◌, [], IfSome, IfOk};
 ghost use Rattle.d_bill.specs.Slopes.{tiered};
 ghost use Rattle.d_bound.specs.Bounders.{IsBounderOf};
 ghost use Rattle.d_bound.specs.Roots.{IsProblemBox};
@@ -23,28 +23,21 @@ const RECORD: &str =
 /// A cent, in units of money.
 const CENT: i128 = 10_000_000_000_000_000_000;
 
-/// Whether no period has two tiers or more.
-fn is_untiered(problem: &Problem) -> bool
-    ensures { IsTrue result → tiered problem.now ≡ [] }
-{
-    for period in 0..36u8 {
-        if problem.is_tiered(period) {
-            return false;
-        }
-    }
-    true
-}
-
-/// The problem of a month and a battery, by the record.
-fn joined(alloc: Global, meter: &Meter, battery: &Battery) -> Result<Problem, Fail>
+/// The problem of a month and a battery, by the record with label L.
+pub fn joined(
+    alloc: Global,
+    records: &str,
+    meter: &Meter,
+    battery: &Battery,
+) -> Result<Problem, Fail>
     ensures { IfOk result (λ problem. tiered problem ≡ []) }
 {
-    let tariff = tariff(alloc, RECORD.as_bytes())?;
+    let tariff = tariff(alloc, records.as_bytes())?;
     if tariff.hourly {
         return Err(Fail::new("a tariff that is settled hour by hour"));
     }
     let problem = Problem::join(alloc, &tariff, meter, battery, Watt::new(0).unwrap())?;
-    if !is_untiered(&problem) {
+    if !problem.is_untiered() {
         return Err(Fail::new("a period of several tiers"));
     }
     Ok(problem)
@@ -56,7 +49,7 @@ fn hourly_problem(alloc: Global) -> Result<Problem, Fail>
 {
     let meter = february(alloc, 60, Wh::new(1000).unwrap(), Wh::new(5000).unwrap())?;
     let battery = battery(alloc, 0, Wh::new(MOST_LIMIT).unwrap())?;
-    joined(alloc, &meter, &battery)
+    joined(alloc, RECORD, &meter, &battery)
 }
 
 /// The problem of the month by quarter hours, with 250 Wh in each and a battery of 250 Wh a level.
@@ -65,11 +58,11 @@ fn quarter_problem(alloc: Global) -> Result<Problem, Fail>
 {
     let meter = february(alloc, 15, Wh::new(250).unwrap(), Wh::new(1250).unwrap())?;
     let battery = quarter_battery(alloc, Wh::new(MOST_LIMIT).unwrap())?;
-    joined(alloc, &meter, &battery)
+    joined(alloc, RECORD, &meter, &battery)
 }
 
 /// The box of all schedules.
-fn root_of(problem: &Problem, bounder: &Bounder) -> Space
+pub fn root_of(problem: &Problem, bounder: &Bounder) -> Space
     requires untiered { tiered problem.now ≡ [] }
     requires bounder { IsBounderOf problem.now bounder.now }
     ensures { IsProblemBox bounder.now.candidates result }

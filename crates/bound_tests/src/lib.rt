@@ -1,4 +1,4 @@
-//! Tests of the cheapest schedule of a problem and of the bounds of its boxes, over public calls alone.
+//! Tests of the bounds of a problem's boxes, over public calls alone.
 #![tactic(auto)]
 
 #[cfg(test)]

@@ -5,7 +5,6 @@ mod PartFacts
 mod TierFacts
 pub mod SlopeFacts
 pub mod TieredFacts
-pub mod LeastFacts
 pub mod CountFacts
 pub mod SizeFacts
 pub mod RuleFacts

@@ -1,8 +1,7 @@
 -- The bill of a tally, and which schedules are best.
-use Rattle.std.specs.Prelude.{◌≡◌, ℕ, ℤ, pos, ◌≤ℤ◌, ◌+ℤ◌, ◌-ℤ◌, List, Option, Some, None, length, slice_index_or, slice_get}
+use Rattle.std.specs.Prelude.{ℕ, ℤ, pos, ◌≤ℤ◌, ◌+ℤ◌, ◌-ℤ◌, List, Option, Some, None, length, slice_index_or, slice_get}
 use Rattle.std.specs.Int.{int_max}
 use Rattle.d_num.specs.Sums.{sum_of_first}
-use Rattle.d_list.specs.Order.{IsNotAfter}
 use Rattle.d_tier.specs.Charges.{tier_charge, peak_charge}
 use Rattle.d_tier.specs.declared.peak.Peak.{Peak}
 use Rattle.d_tariff.specs.declared.period.Period.{Period}
@@ -58,9 +57,3 @@ metered_bill i = bill_by i (metered_tally i)
 pub record IsLeast (i : Inputs) (s : List ℕ) : Type 0 where
   pub feasible : IsFeasible i s
   pub least : (z : List ℕ) → IsFeasible i z → bill_of i s ≤ℤ bill_of i z
-
--- the first of the feasible schedules that cost least, in the order of lists of mode numbers
-pub record IsFirstLeast (i : Inputs) (cost : List ℕ → ℤ) (s : List ℕ) : Type 0 where
-  pub feasible : IsFeasible i s
-  pub least : (z : List ℕ) → IsFeasible i z → cost s ≤ℤ cost z
-  pub first : (z : List ℕ) → IsFeasible i z → cost z ≡ cost s → IsNotAfter s z

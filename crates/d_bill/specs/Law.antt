@@ -1,5 +1,5 @@
 -- What holds of all problems.
-use Rattle.std.specs.Prelude.{◌≡◌, ℕ, ℤ, ◌+ℤ◌, List, []}
+use Rattle.std.specs.Prelude.{◌≡◌, ℕ, ℤ, ◌+ℤ◌, List}
 use Rattle.d_cal.specs.Calendar.{IsMonth}
 use Rattle.d_tariff.specs.Terms.{Terms, IsTariff, HasTables, HasGrids}
 use Rattle.d_meter.specs.Meters.{IsReadings}
@@ -8,9 +8,9 @@ use Rattle.d_bill.specs.Inputs.{Inputs, IsInRange}
 use Rattle.d_meter.specs.Meters.{Metered}
 use Rattle.d_bill.specs.Join.{join_of}
 use Rattle.d_bill.specs.Totals.{tally_by}
-use Rattle.d_bill.specs.Bills.{sum_of, group_charges, IsFirstLeast, IsLeast}
+use Rattle.d_bill.specs.Bills.{sum_of, group_charges}
 use Rattle.d_bill.specs.Prices.{cost_of_flow, rate_gaps}
-use Rattle.d_bill.specs.Slopes.{tiered, rates_of, tier_gaps, energy_cost}
+use Rattle.d_bill.specs.Slopes.{rates_of, tier_gaps}
 
 -- what is joined of a valid tariff with tables and grids, the readings of a whole month, a battery and an earlier peak of at most 10^13 W
 -- keeps what every problem keeps
@@ -29,12 +29,3 @@ IsPartedSum = (i : Inputs) (rates : List ℤ) (flow : ℕ → ℤ) → IsInRange
 abbrev pub IsPartedBySlopes : Type 0
 IsPartedBySlopes = (i : Inputs) (slopes : List ℤ) (flow : ℕ → ℤ) → IsInRange i
     → sum_of i (tally_by i flow) ≡ (i.fixed +ℤ group_charges i (tally_by i flow)) +ℤ (tier_gaps i slopes (tally_by i flow) +ℤ cost_of_flow i (rates_of i slopes) flow)
-
--- no group, and no tiered period
-pub record IsPlain (i : Inputs) : Type 0 where
-  pub groups : i.peaks ≡ []
-  pub tiers : tiered i ≡ []
-
--- of such a problem the first of the schedules whose energy costs least has the least bill, also where bills are raised to a minimum
-abbrev pub IsLeastByEnergy : Type 0
-IsLeastByEnergy = (i : Inputs) (s : List ℕ) → IsInRange i → IsPlain i → IsFirstLeast i (energy_cost i) s → IsLeast i s

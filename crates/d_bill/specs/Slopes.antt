@@ -3,9 +3,8 @@ use Rattle.std.specs.Prelude.{ℕ, zero, suc, ℤ, pos, Bool, false, nat_lt, ◌
 use Rattle.d_tariff.specs.declared.period.Period.{Period}
 use Rattle.d_tariff.specs.Terms.{period_at}
 use Rattle.d_bill.specs.Inputs.{Inputs}
-use Rattle.d_bill.specs.Flows.{flow_at}
 use Rattle.d_bill.specs.Totals.{Tallied, values_of}
-use Rattle.d_bill.specs.Prices.{rate_gap, first_price, cost_of_flow}
+use Rattle.d_bill.specs.Prices.{rate_gap, first_price}
 
 -- the numbers below n that pass a test, rising
 unfoldable pub numbers_where : (ℕ → Bool) → ℕ → List ℕ
@@ -43,7 +42,3 @@ rates_of i slopes = values_of 36 (slope_rate i slopes)
 -- by how much the tiered periods' charges are more than their imports at the slopes
 abbrev pub tier_gaps : Inputs → List ℤ → Tallied → ℤ
 tier_gaps i slopes tally = sum_over (tiered i) (rate_gap i (rates_of i slopes) tally)
-
--- what a schedule's energy costs where no period is tiered
-abbrev pub energy_cost : Inputs → List ℕ → ℤ
-energy_cost i s = cost_of_flow i (rates_of i []) (flow_at i s)

@@ -1,6 +1,6 @@
 //! What holds of all problems, whatever goes through the meter.
 
-ghost use Rattle.d_bill.specs.Law.{JoinsInRange, IsPartedSum, IsPartedBySlopes, IsLeastByEnergy};
+ghost use Rattle.d_bill.specs.Law.{JoinsInRange, IsPartedSum, IsPartedBySlopes};
 ghost use Rattle.d_bill.specs.ScheduleLaw.{IsReadOnce};
 
 /// The problem that is joined of a valid tariff with tables and grids, the readings of a whole month, a battery and an earlier peak of at
@@ -18,12 +18,6 @@ pub fn parts_sum()
 /// The same with rates for the tiered periods alone: all others charge their one price.
 pub fn parts_by_slopes()
     ensures { IsPartedBySlopes }
-{}
-
-/// Where there is no group and no tiered period, the first of the schedules whose energy costs least has the least bill, also where
-/// bills are raised to a minimum.
-pub fn least_by_energy()
-    ensures { IsLeastByEnergy }
 {}
 
 /// The rows of every table are one schedule of a month and its battery and right, or are refused for one cause.

@@ -15,7 +15,7 @@ mod tally;
 mod walk;
 
 pub use arc::{Arc, At, Interval};
-pub use law::{joins_in_range, least_by_energy, parts_by_slopes, parts_sum, reads_once};
+pub use law::{joins_in_range, parts_by_slopes, parts_sum, reads_once};
 pub use problem::Problem;
 pub use schedule::{ScheduleFault, read_schedule};
 pub use tally::{PERIODS, Tally};

@@ -72,7 +72,6 @@ impl Problem {
     ghost use Rattle.d_bill.specs.Inputs.{IsInRange, HasPrices, period_in, sell_of, sell_at, is_in_group};
     ghost use Rattle.d_bill.specs.Flows.{net_at};
     ghost use Rattle.d_bill.specs.Slopes.{tiered, tiered_at};
-    ghost use Rattle.d_bill.specs.Law.{IsPlain};
 
     /// The number of intervals.
     pub fn intervals(&self) -> u32
@@ -179,16 +178,8 @@ impl Problem {
         }
     }
 
-    /// Whether no group is charged and no energy period has two tiers or more. Then each period has one price, and a bill's sum is the fixed
-    /// charge and what the energy costs.
-    pub fn is_plain(&self) -> bool
-        ensures { IsTrue result ↔ IsPlain self.now }
-    {
-        self.groups().is_empty() && self.is_untiered()
-    }
-
     /// Whether no energy period has two tiers or more.
-    fn is_untiered(&self) -> bool
+    pub fn is_untiered(&self) -> bool
         ensures { IsTrue result ↔ (tiered self.now ≡ []) }
     {
         for period in 0..36u8 {

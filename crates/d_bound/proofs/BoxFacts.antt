@@ -23,7 +23,7 @@ use Rattle.d_bound.specs.Roots.{HoldsSchedule}
 use Rattle.d_bound.specs.Nodes.{box_arcs, box_schedule, low_charges, low_gaps, relaxed_by, relaxed_value, slopes_of}
 use Rattle.d_bound.specs.BoxLaws.{IsUntiered, IsAtMost, IsFirstWithin, BoxesHaveFirst, IsBilled, BillsAreReached, BoundsAreBelow}
 use Rattle.d_bound.proofs.RateFacts.{fair_of}
-use Rattle.d_bound.proofs.LeastWays.{first_drawn, none_drawn}
+use Rattle.d_bound.proofs.DrawnWays.{first_drawn, none_drawn}
 use Rattle.d_bound.proofs.ChoiceFacts.{IsCheapestFound, cheapest_is}
 use Rattle.d_bound.proofs.CapFacts.{caps_draw, draws_cap, group_there}
 use Rattle.d_bound.proofs.SumFacts.{sum_rises, greatest_above}

@@ -16,7 +16,7 @@ use Rattle.d_num.proofs.Sums.{sum_more, sum_none}
 use Rattle.d_path.specs.Arcs.{intervals_of, arc_cost, level_after, along, way_cost}
 use Rattle.d_path.proofs.CostLemmas.{along_there}
 use Rattle.d_path.proofs.WayLemmas.{way_length}
-use Rattle.d_bound.specs.Law.{IsFair}
+use Rattle.d_bound.specs.Fair.{IsFair}
 use Rattle.d_bound.specs.PlanWays.{plan_arcs, rated_cost, power_at, DrawsAllowed}
 use Rattle.d_bound.proofs.PlanArcs.{intervals_is, arc_cost_is}
 use Rattle.d_bound.proofs.PlanSteps.{Steps, step_of, keeps_of, mode_within}

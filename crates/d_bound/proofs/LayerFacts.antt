@@ -10,7 +10,7 @@ use Rattle.d_path.specs.Days.{FitsDays}
 use Rattle.d_path.proofs.DayLaws.{made_fits}
 use Rattle.d_bill.specs.Inputs.{Inputs, IsInRange}
 use Rattle.d_bill.specs.Slopes.{rates_of}
-use Rattle.d_bound.specs.Law.{IsFair}
+use Rattle.d_bound.specs.Fair.{IsFair}
 use Rattle.d_bound.specs.PlanWays.{plan_arcs, all_powers}
 use Rattle.d_bound.specs.Bounders.{AreLayersOf}
 use Rattle.d_bound.proofs.RateFacts.{fair_of}

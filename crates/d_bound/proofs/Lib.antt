@@ -10,7 +10,7 @@ mod LayerFacts
 mod LowFacts
 mod WayFacts
 mod DayFacts
-pub mod LeastWays
+mod DrawnWays
 pub mod ChoiceFacts
 pub mod TrialFacts
 mod SumFacts

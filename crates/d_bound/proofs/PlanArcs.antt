@@ -21,7 +21,7 @@ use Rattle.d_bill.specs.Flows.{permitted_arc, flow_of, import_of, export_of}
 use Rattle.d_bill.specs.Prices.{rate_of}
 use Rattle.d_bill.proofs.RuleFacts.{flow_permitted}
 use Rattle.d_path.specs.Arcs.{intervals_of, arc_cost, next_level, level_after, IsSound}
-use Rattle.d_bound.specs.Law.{IsFair}
+use Rattle.d_bound.specs.Fair.{IsFair}
 use Rattle.d_bound.specs.PlanWays.{priced, mode_cost, cost_at, mode_costs, move_of, plan_arcs, AreRates}
 use Rattle.d_bound.proofs.RateFacts.{rate_within, sell_within}
 

@@ -14,7 +14,7 @@ use Rattle.d_tier.specs.Tables.{price_at}
 use Rattle.d_bill.specs.Prices.{rate_of, first_price}
 use Rattle.d_bill.specs.Slopes.{tiered_at, numbers_where, slope_rate, rates_of}
 use Rattle.d_bill.specs.Totals.{values_of}
-use Rattle.d_bound.specs.Law.{HasFairPrices, IsFair}
+use Rattle.d_bound.specs.Fair.{HasFairPrices, IsFair}
 use Rattle.d_bound.specs.PlanWays.{AreRates}
 
 -- 0 is within every size

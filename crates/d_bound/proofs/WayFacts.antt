@@ -3,7 +3,7 @@ use Rattle.std.proofs.Common.{◌≡◌, ℕ, ℤ, List, map, Bool, refl}
 use Rattle.d_num.specs.declared.pot.Pot.{Pot}
 use Rattle.d_path.specs.declared.ways.Move.{Move}
 use Rattle.d_bill.specs.Inputs.{Inputs}
-use Rattle.d_bound.specs.declared.least.Levels.{Levels}
+use Rattle.d_bound.specs.declared.ways.Levels.{Levels}
 use Rattle.d_bound.specs.PlanWays.{plan_arcs, mode_costs, move_of}
 use Rattle.d_bound.specs.Bounders.{levels_in, arcs_over}
 

@@ -14,7 +14,7 @@ use Rattle.d_bill.specs.Inputs.{Inputs, IsInRange}
 use Rattle.d_bill.specs.Flows.{arc_of}
 use Rattle.d_bill.specs.Slopes.{rates_of}
 use Rattle.d_bound.specs.declared.bounder.Bounder.{Bounder}
-use Rattle.d_bound.specs.declared.least.Levels.{Levels}
+use Rattle.d_bound.specs.declared.ways.Levels.{Levels}
 use Rattle.d_path.specs.declared.ways.Move.{Move}
 use Rattle.d_bound.specs.PlanWays.{all_powers, mode_costs, move_of, plan_arcs}
 use Rattle.d_bound.specs.Caps.{is_capped}

@@ -9,4 +9,4 @@ pub mod SlopeSteps
 pub mod BoundSteps
 pub mod RootSteps
 pub mod BoxLaws
-pub mod Law
+pub mod Fair

@@ -1,7 +1,6 @@
 -- The ways of a problem: its modes as moves, and what the energy of each mode costs in each interval where every energy period has one
 -- rate. Not every power may be drawn: `allows` says of each interval which. All of it is our own rule.
-use Rattle.std.specs.Prelude.{◌≡◌, ℕ, ◌*◌, ◌^◌, ◌/◌, ◌%◌, ℤ, ◌*ℤ◌, ◌-ℤ◌, ◌≤ℤ◌, ◌<◌, Bool, true, List, Option, Some, None, Vec, All, length, map, MatchOption, if◌then◌else◌}
-use Rattle.std.specs.declared.alloc.Global.{Global}
+use Rattle.std.specs.Prelude.{◌≡◌, ℕ, ◌*◌, ◌^◌, ◌/◌, ◌%◌, ℤ, ◌*ℤ◌, ◌-ℤ◌, ◌≤ℤ◌, ◌<◌, Bool, true, List, Option, Some, None, All, length, map, if◌then◌else◌}
 use Rattle.std.specs.List.{range_with_len}
 use Rattle.d_num.specs.Amount.{IsWithin}
 use Rattle.d_num.specs.declared.pot.Pot.{Pot}
@@ -14,9 +13,7 @@ use Rattle.d_bill.specs.Flows.{arc_of, flow_at, power_of}
 use Rattle.d_bill.specs.Prices.{rate_of, cost_of_flow}
 use Rattle.d_path.specs.declared.ways.Move.{Move}
 use Rattle.d_bill.specs.Schedules.{IsFeasible}
-use Rattle.d_bill.specs.Bills.{IsFirstLeast}
-use Rattle.d_path.specs.Arcs.{Arcs, way_cost}
-use Rattle.d_path.specs.Cheapest.{IsFirstCheapest}
+use Rattle.d_path.specs.Arcs.{Arcs}
 
 -- every power
 abbrev pub all_powers : ℕ → ℤ → Bool
@@ -78,13 +75,3 @@ pub record IsFirstDrawn (i : Inputs) (allows : ℕ → ℤ → Bool) (cost : Lis
 -- a rate for each period, at most 3000 USD per kWh in size
 abbrev pub AreRates : List ℤ → Type 0
 AreRates rates = All (IsWithin (3 * 10 ^ 21)) rates
-
--- nothing where there is no way from this level, or the first of the cheapest
-abbrev pub IsFoundWay : Arcs → ℕ → Option (Vec ℕ Global) → Type 0
-IsFoundWay arcs start found =
-    MatchOption found ((way : List ℕ) → way_cost arcs 0 start way ≡ NoWay) (λ way. IsFirstCheapest arcs 0 start way.items)
-
--- nothing where no schedule is feasible, or the first of those whose energy costs least
-abbrev pub IsFoundLeast : Inputs → List ℤ → Option (Vec ℕ Global) → Type 0
-IsFoundLeast i rates found =
-    MatchOption found ((schedule : List ℕ) → IsFeasible i schedule → ⊥) (λ schedule. IsFirstLeast i (rated_cost i rates) schedule.items)

@@ -13,11 +13,11 @@ ghost use Rattle.d_bound.specs.Bounders.{IsAtDay, IsBounderOf, IsFilled, IsWritt
 use crate::bound::{bill_of, bound_of};
 use crate::caps::cap_costs;
 use crate::costs::{costs_of, moves_of, powers_of};
-use crate::least::{Levels, find_first, layers_of, levels_of, ways_over};
 use crate::node::Node;
 use crate::rates::prices_of;
 use crate::roots::{candidates_of, root_of};
 use crate::slopes::first_slopes;
+use crate::ways::{Levels, find_first, layers_of, levels_of, ways_over};
 use d_bill::Problem;
 use d_box::{Candidates, Slopes, Space};
 use d_num::NoMemory;

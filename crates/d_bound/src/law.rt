@@ -1,12 +1,6 @@
 //! What holds of all problems.
 
 ghost use Rattle.d_bound.specs.BoxLaws.{BillsAreReached, BoundsAreBelow, BoundsComeWithBills, BoundsRise, BoxesHaveFirst, HalvesAreBoxes, HalvesHold, PointsMeet, RelaxedAreSmall, RootsAreBoxes, RootsHold};
-ghost use Rattle.d_bound.specs.Law.{HasOneFirst};
-
-/// Either no schedule of a problem is feasible, or exactly one is the first of those whose energy costs least.
-pub fn has_one_first()
-    ensures { HasOneFirst }
-{}
 
 /// The schedule of a box is the first cheapest within its caps, or none where no feasible schedule keeps them.
 pub fn boxes_have_first()

@@ -1,14 +1,10 @@
-//! The first cheapest schedule of a problem, found over the ways of its battery's modes.
+//! A problem's ways: its costs and moves between the levels of its battery, the layers for them, and the first cheapest way.
 
-ghost use Rattle.std.specs.Prelude.{◌≡◌, [], length, IfOk};
-ghost use Rattle.d_bill.specs.Slopes.{rates_of};
+ghost use Rattle.std.specs.Prelude.{◌≡◌, length, IfOk};
 ghost use Rattle.d_path.specs.Arcs.{arcs_of, intervals_of, IsSound};
 ghost use Rattle.d_path.specs.Days.{FitsDays};
-ghost use Rattle.d_bound.specs.PlanWays.{IsFoundWay, IsFoundLeast};
 ghost use Rattle.d_bound.specs.Bounders.{AreLayersOf, IsFoundFirst, levels_in, arcs_over};
 
-use crate::costs::{costs_of, moves_of};
-use crate::rates::prices_of;
 use d_bill::Problem;
 use d_num::{Money, NoMemory, Pot};
 use d_path::{Move, Ways, backward_days, first_cheapest_days};
@@ -17,39 +13,6 @@ use std::alloc::Global;
 
 /// The minutes of a day.
 const DAY: u32 = 1440;
-
-/// The first of the feasible schedules whose energy costs least, in the order of lists of mode numbers, or None exactly where no schedule
-/// is feasible. What energy costs is counted at each period's price; a period of several tiers counts as free.
-pub fn cheapest_schedule(alloc: Global, problem: &Problem) -> Result<Option<Vec<u8>>, NoMemory>
-    ensures { IfOk result (IsFoundLeast problem.now (rates_of problem.now [])) }
-{
-    let rates = prices_of(alloc, problem)?;
-    let costs = costs_of(alloc, problem, rates.as_slice())?;
-    let moves = moves_of(alloc, problem.battery().modes.as_slice())?;
-    let mut layers = layers_of(alloc, problem)?;
-    let ways = ways_over(levels_of(problem), costs.as_slice(), moves.as_slice());
-    let intervals = problem.intervals();
-    first_way(alloc, &ways, intervals, &mut layers)
-}
-
-/// The numbers of the moves of the first of the cheapest ways, or None exactly where there is no way.
-fn first_way(
-    alloc: Global,
-    ways: &Ways,
-    intervals: u32,
-    layers: &mut DayLayers,
-) -> Result<Option<Vec<u8>>, NoMemory>
-    requires sound { IsSound (arcs_of ways.now) }
-    requires fits { FitsDays (arcs_of ways.now) layers.old }
-    requires intervals { intervals ≡ intervals_of (arcs_of ways.now) }
-    ensures { IfOk result (IsFoundWay (arcs_of ways.now) ways.now.start) }
-{
-    let mut way = vec![in alloc; 0u8; intervals as usize]?;
-    match find_first(ways, layers, way.as_mut_slice()) {
-        Some(_) => Ok(Some(way)),
-        None => Ok(None),
-    }
-}
 
 /// What the cheapest way costs, or None exactly where there is no way. The schedule becomes the first of the cheapest ways, or stays.
 pub(crate) fn find_first(ways: &Ways, layers: &mut DayLayers, schedule: &mut [u8]) -> Option<Money>

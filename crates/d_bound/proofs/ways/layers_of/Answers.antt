@@ -7,7 +7,7 @@ use Rattle.d_rows.specs.Days.{DayRows}
 use Rattle.d_batt.specs.Storage.{Storage}
 use Rattle.d_bound.specs.Bounders.{AreLayersOf}
 use Rattle.d_bound.proofs.LayerFacts.{layers_made}
-use Rattle.d_bound.proofs.least.layers_of.Goals as goal
+use Rattle.d_bound.proofs.ways.layers_of.Goals as goal
 
 pub returns : goal.returns
 returns c =
