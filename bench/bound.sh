@@ -1,11 +1,12 @@
 #!/bin/sh
 # Times one node, the bound of the box of all schedules, of a month of 744 intervals, 256 levels and 9 modes, and of one of 2976 intervals,
-# 256 levels and 8 modes, beside a plain loop in C of the same additions and comparisons; and prints the peak memory of the run, beside that
-# of a run without a bounder. It proves and builds a small program of its own in a folder that it removes, which takes some minutes. It
-# isn't part of the gate.
+# 256 levels and 8 modes, beside a plain loop in C of the same additions and comparisons. A node goes through the month's arcs twice, once to the
+# costs at day ends and once day by day to the schedule, so the loop does too. It also prints the peak memory of a run, and that of one
+# without a bounder. It proves and builds a small program of its own in a folder that it removes, which takes some minutes. It isn't part of
+# the gate.
 . "$(dirname -- "$0")/lib.sh"
 lend d_num d_list d_text d_table d_cal d_tier d_tariff d_box d_columns d_urdb d_meter d_batt d_bill d_rows d_path d_bound
-build nodes bound d_batt d_bill d_bound d_box d_meter d_num d_table d_urdb
+build nodes bound d_batt d_bill d_bound d_box d_meter d_num d_table d_tariff d_urdb
 cd "$work" || exit 1
 cc -O2 -o plain -x c "$top/bench/bound/plain.c.txt" || exit 1
 for size in "60 9" "15 8"; do
@@ -28,5 +29,7 @@ with open("battery.csv", "w") as file:
         file.write("mode,m%d,%d,%d,,\n" % (mode, change, change * 250))
 PY
     python3 "$top/bench/bound/measure.py" "$program" ./plain "$((31 * 1440 / $1))" 256 "$2"
+    peak "$program" once
+    echo "  without a bounder:"
     peak "$program"
 done
