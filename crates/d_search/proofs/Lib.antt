@@ -10,3 +10,4 @@ mod SameFacts
 pub mod PromiseFacts
 pub mod BudgetFacts
 mod ThereFacts
+pub mod LawfulFacts
