@@ -44,7 +44,7 @@ few_peaks : (i : Inputs) → IsUntiered i → length i.peaks ≤ 37
 few_peaks i untiered = let a = untiered.range.few_demand_groups in let b = untiered.range.flat_group in omega arith
 
 module _ (i : Inputs) (lists : List (List ℤ)) (untiered : IsUntiered i) (candidates : AreCandidates i lists) where
-  no_tables : length (tiered_tables i) ≡ 0
+  pub no_tables : length (tiered_tables i) ≡ 0
   no_tables = length-map (tiered i) (λ number. tiers_in (period_at i.energy number)) ∙ ap (λ (l : List ℕ). length l) untiered.none
 
   -- where a box is split is its split
@@ -54,7 +54,7 @@ module _ (i : Inputs) (lists : List (List ℤ)) (untiered : IsUntiered i) (candi
       subst (IsSplitOf space (tiered_tables i) i.peaks lists) is
       (split_place_is space (tiered_tables i) i.peaks lists candidates.long box.ends candidates.rising)
 
-  cut_is : (space : Space) (split : Split) → IsProblemBox lists space → split_place space (tiered_tables i) i.peaks lists ≡ Some split → IsCut lists space split
+  pub cut_is : (space : Space) (split : Split) → IsProblemBox lists space → split_place space (tiered_tables i) i.peaks lists ≡ Some split → IsCut lists space split
   cut_is space split box is =
       cuts space (tiered_tables i) i.peaks lists split box.box (omega (arith, no_tables)) (few_peaks i untiered) candidates.long
       (place_is space (Some split) box is)

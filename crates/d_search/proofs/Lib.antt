@@ -11,3 +11,4 @@ pub mod PromiseFacts
 pub mod BudgetFacts
 mod ThereFacts
 pub mod LawfulFacts
+pub mod CountedFacts
