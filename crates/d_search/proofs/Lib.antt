@@ -12,3 +12,4 @@ pub mod BudgetFacts
 mod ThereFacts
 pub mod LawfulFacts
 pub mod CountedFacts
+pub mod CandidateFacts
