@@ -10,7 +10,7 @@ use Rattle.d_bill.specs.declared.arc.Arc.{Arc}
 use Rattle.d_bill.specs.Inputs.{Inputs, is_in_group}
 use Rattle.d_bill.specs.Flows.{arc_of}
 use Rattle.d_bound.specs.Roots.{AreCandidates}
-use Rattle.d_bound.specs.RootSteps.{IsDrawnAt, IsFoundDrawn, AreDrawnTo, AreDrawn}
+use Rattle.d_bound.specs.RootSteps.{IsFoundDrawn, AreDrawnTo, AreDrawn}
 use Rattle.d_bound.proofs.DrawnFacts.{drawn_same, drawn_more, drawn_all}
 
 in_front : (x : ℤ) (xs : List ℤ) → Contains (x ∷ xs) x

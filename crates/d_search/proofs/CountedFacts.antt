@@ -1,10 +1,9 @@
 -- The rules of a problem in which no period is tiered count the choices of candidates.
-use Rattle.std.proofs.Common.{◌≡◌, ℕ, ◌+◌, ◌*◌, ◌≤◌, ℤ, List, [], ◌∷◌, Option, Some, None, length, arith}
+use Rattle.std.proofs.Common.{◌≡◌, ℕ, ◌+◌, ◌*◌, ◌≤◌, ℤ, List, [], ◌∷◌, Some, None, arith}
 use Rattle.d_box.specs.declared.space.Range.{Range}
 use Rattle.d_box.specs.declared.space.Space.{Space}
 use Rattle.d_box.specs.declared.space.Split.{Split}
 use Rattle.d_box.specs.declared.space.Split.TheVariants.{Total, Peak}
-use Rattle.d_box.specs.declared.slopes.Slopes.{Slopes}
 use Rattle.d_box.specs.Halves.{left_of, right_of, weight, combinations}
 use Rattle.d_box.specs.SplitPlaces.{split_place}
 use Rattle.d_box.proofs.CombinationFacts.{shared}

@@ -19,7 +19,7 @@ use Rattle.d_bound.specs.BoxLaws.{IsUntiered}
 use Rattle.d_bound.proofs.RootFacts.{roots_boxes, roots_holds, halves_boxes, halves_holds}
 use Rattle.d_bound.proofs.BoxFacts.{bounds_below, bills_reached}
 use Rattle.d_bound.proofs.NodeFacts.{bounds_rises}
-use Rattle.d_search.specs.Rules.{IsBillOf, IsLawfulNode, IsLawfulSplit, IsLawful}
+use Rattle.d_search.specs.Rules.{IsBillOf, IsLawful}
 use Rattle.d_search.specs.Laws.{BoundsHaveBills}
 use Rattle.d_search.specs.Problems.{schedule_in, rules_of, meaning_of}
 

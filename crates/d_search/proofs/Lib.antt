@@ -13,3 +13,4 @@ mod ThereFacts
 pub mod LawfulFacts
 pub mod CountedFacts
 pub mod CandidateFacts
+pub mod SearchFacts
