@@ -1,6 +1,7 @@
 -- The split of a box as a value is the only one that the rules of a split let.
 use Rattle.std.proofs.Common.{ℕ, zero, suc, ℤ, pos, Bool, true, false, ◌≤ℤ◌, ◌<ℤ◌, ◌≡◌, ◌⊎◌, ◌<◌, ◌&&◌, if◌then◌else◌, int_lt, List, [], ◌∷◌, Option, Some, None, length, sym, subst, ap, refl, inl, inr, arith, ◌∙◌}
 use Rattle.std.specs.Int.{int_min}
+use Rattle.std.specs.List.{All}
 use Rattle.std.proofs.lemmas.Bool.{cases_eq, cases_lt}
 use Rattle.std.proofs.lemmas.Int.{ints}
 use Rattle.d_tier.specs.declared.tier.Tier.{Tier}
@@ -10,9 +11,12 @@ use Rattle.d_box.specs.declared.space.Space.{Space}
 use Rattle.d_box.specs.declared.space.Split.{Split}
 use Rattle.d_box.specs.declared.space.Split.TheVariants.{Total, Peak}
 use Rattle.d_box.specs.Boxes.{range_at}
+use Rattle.d_box.specs.Candidates.{IsRising, list_at, AreEnds}
+use Rattle.d_box.specs.Halves.{SplitsAreOne}
 use Rattle.d_box.specs.Splits.{tiers_at, gap_at, HasNoTotal, IsFirstInner, IsWidestGroup, IsSplitOf}
-use Rattle.d_box.specs.SplitPlaces.{lesser_of, lower_end, lowest_end, or_total, total_split, wider_of, widest_of, peak_split, split_or, split_place}
+use Rattle.d_box.specs.SplitPlaces.{lesser_of, lower_end, lowest_end, or_total, total_split, wider_of, widest_of, middle_of, peak_split, split_or, split_place}
 use Rattle.d_box.specs.Steps.{IsFirstTotal, IsWidest}
+use Rattle.d_box.proofs.SplitFacts.{peak_split as peak_is_split}
 
 -- one more tier before the others, whose end doesn't lie between
 none_before : (tier : Tier) (rest : List Tier) (low high : ℤ) → HasNoInner rest low high (length rest)
@@ -262,3 +266,25 @@ split_is space energy groups candidates (Some (Peak group at)) is =
     ap (λ z. Some (Peak group z)) is.cut.middle
     ∙ (ap (λ g. peak_split space candidates g) the_group
     ∙ ap (λ t. split_or t (peak_split space candidates (widest_of space groups (length groups)))) no_total)
+
+place_of : (space : Space) (energy : List (List Tier)) (groups : List Group) (candidates : List (List ℤ)) (total : Option Split) (group : Option ℕ)
+    → length candidates ≡ length groups → AreEnds space candidates → All IsRising candidates → IsFirstTotal space energy (length energy) total
+    → IsWidest space groups (length groups) group → IsSplitOf space energy groups candidates (split_or total (peak_split space candidates group))
+place_of space energy groups candidates (Some (Total index at)) group long ends rise is widest = is
+place_of space energy groups candidates (Some (Peak other at)) group long ends rise is widest = absurd is
+place_of space energy groups candidates None None long ends rise is widest = record { no_total = is; no_gap = widest }
+place_of space energy groups candidates None (Some group) long ends rise is widest =
+    peak_is_split space energy groups candidates group (middle_of (list_at candidates group) (range_at space.peaks group)) is widest long ends rise refl
+
+-- what is found as a value is the split of the box
+pub split_place_is : (space : Space) (energy : List (List Tier)) (groups : List Group) (candidates : List (List ℤ))
+    → length candidates ≡ length groups → AreEnds space candidates → All IsRising candidates
+    → IsSplitOf space energy groups candidates (split_place space energy groups candidates)
+split_place_is space energy groups candidates long ends rise =
+    place_of space energy groups candidates (total_split space energy (length energy)) (widest_of space groups (length groups)) long ends rise
+    (total_is space energy (length energy)) (widest_found space groups (length groups))
+
+-- a box has one split
+pub splits_same : SplitsAreOne
+splits_same space energy groups candidates one other is was =
+    split_is space energy groups candidates one is ∙ sym (split_is space energy groups candidates other was)

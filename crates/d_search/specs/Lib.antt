@@ -5,3 +5,4 @@ pub mod Outcomes
 pub mod Promises
 pub mod Laws
 pub mod Problems
+pub mod ProblemLaws
