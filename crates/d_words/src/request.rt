@@ -26,6 +26,8 @@ pub enum Task<'a> {
     Plan {
         /// The name of the battery file.
         battery: &'a str,
+        /// The most boxes that may be made, from 1 to 65535; None where the words give no budget.
+        budget: Option<u32>,
     },
     /// The bill of the readings alone.
     MeteredBill,
