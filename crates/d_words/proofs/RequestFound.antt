@@ -222,8 +222,8 @@ budget_decided None None = holds tt
 budget_decided None (Some budget) = fails (λ gives. gives)
 budget_decided (Some text) None = fails (λ gives. gives)
 budget_decided (Some text) (Some budget) = restated
-    (λ h. record { digits = (h.0, h.1.0); few = h.1.1.0; value = h.1.1.1.0; least = h.1.1.1.1.0; most = h.1.1.1.1.1 })
-    (λ is. (is.digits.0, (is.digits.1, (is.few, (is.value, (is.least, is.most))))))
+    (λ h. record { digits = (h.0, h.1.0); few = h.1.1.0; value = h.1.1.1.0; range = h.1.1.1.1 })
+    (λ is. (is.digits.0, (is.digits.1, (is.few, (is.value, is.range)))))
     (both (is_below 0 (length text)) (both (digits_decided text) (both (at_most (length text) 14)
     (both (same_number budget (digits_value 10 text)) (both (at_most 1 budget) (at_most budget 65535))))))
 

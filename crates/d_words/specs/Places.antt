@@ -3,7 +3,7 @@ use Rattle.std.specs.Prelude.{◌≡◌, ℕ, ◌-◌, ◌≤◌, Bool, ℤ, Lis
 use Rattle.d_words.specs.Words.{Asked, Wanted, command_of, peak_words, billing_words, budget_words, words_behind, words_of, GivesPeak, GivesBudget, budget_of}
 use Rattle.d_words.specs.Asking.{wanted_of}
 use Rattle.d_words.specs.declared.billing.Billing.{Billing}
-use Rattle.d_words.specs.declared.budget.PlanEnd.{PlanEnd}
+use Rattle.d_words.specs.declared.plan_end.PlanEnd.{PlanEnd}
 use Rattle.d_words.specs.declared.job.Job.{Job}
 
 -- the options that each request has stand at their places

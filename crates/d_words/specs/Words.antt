@@ -78,13 +78,16 @@ abbrev pub GivesPeak : Option (List ℕ) → ℤ → Type 0
 GivesPeak None peak = peak ≡ pos 0
 GivesPeak (Some text) peak = IsPeak text peak
 
--- 1 to 14 digits, which may begin with zeros, write this many boxes, from 1 to 65535
+-- a search may make so many boxes: from 1 to 65535
+abbrev pub IsBoxCount : ℕ → Type 0
+IsBoxCount boxes = (1 ≤ boxes) × (boxes ≤ 65535)
+
+-- 1 to 14 digits, which may begin with zeros, write this many boxes
 pub record IsBudget (text : List ℕ) (budget : ℕ) : Type 0 where
   pub digits : IsNumeral 10 text
   pub few : length text ≤ 14
   pub value : budget ≡ digits_value 10 text
-  pub least : 1 ≤ budget
-  pub most : budget ≤ 65535
+  pub range : IsBoxCount budget
 
 -- the budget that this text gives; none where there is no text
 abbrev pub GivesBudget : Option (List ℕ) → Option ℕ → Type 0

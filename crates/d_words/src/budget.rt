@@ -1,61 +1,45 @@
-//! The words behind a plan's battery: how its month is billed, and its budget of boxes.
+//! How many boxes a search may make.
 
-ghost use Rattle.std.specs.Prelude.{◌≡◌, ◌↔◌, IsTrue, map, string_bytes};
-ghost use Rattle.d_words.specs.Words.{IsBudget};
-ghost use Rattle.d_words.specs.Places.{EndsInBudget, FindsBudget, FindsPlanEnd, IsPlanEnd};
+ghost use Rattle.std.specs.Prelude.{◌≡◌, ◌↔◌, IsSome, IfSome};
+ghost use Rattle.d_words.specs.Words.{IsBoxCount};
 
-use crate::billing::{Billing, read_billing};
-use crate::places::{is_at, word_at};
+use std::marker::Model;
 
-/// What the words behind a plan's battery say.
+/// The most boxes that a search may make. Our own rule: from 1 to 65535. A contract sees it as their number.
 #[derive(Clone, Copy)]
-pub(crate) struct PlanEnd {
-    /// How the month is billed.
-    pub billing: Billing,
-    /// The most boxes that may be made, from 1 to 65535; None where the words give no budget.
-    pub budget: Option<u32>,
+pub struct Budget(u32);
+
+impl Model for Budget {
+    ghost use Rattle.std.specs.Prelude.{ℕ};
+    ghost use Rattle.d_words.specs.Words.{IsBoxCount};
+
+    ghost Value = { ℕ };
+
+    ghost view = { λ budget. budget.0 };
+
+    ghost invariant = { λ budget. IsBoxCount budget.0 };
+
+    ghost inverse = { λ boxes. record { 0 = boxes } };
 }
 
-/// What these words behind a plan's battery say: how the month is billed, then `--budget N` or none. None exactly where the words are
-/// others.
-pub(crate) fn read_plan_end(words: &[String]) -> Option<PlanEnd>
-    ensures { FindsPlanEnd (IsPlanEnd (map string_bytes words.now)) result }
-{
-    if ends_in_budget(words) {
-        let front = words.len() - 2;
-        let billing = read_billing(&words[..front])?;
-        let budget = read_budget(word_at(words, front + 1))?;
-        Some(PlanEnd {
-            billing,
-            budget: Some(budget),
-        })
-    } else {
-        let billing = read_billing(words)?;
-        Some(PlanEnd {
-            billing,
-            budget: None,
-        })
+impl Budget {
+    /// So many boxes, or None exactly where that isn't from 1 to 65535.
+    pub fn new(boxes: u64) -> Option<Budget>
+        ensures range { IsSome result ↔ IsBoxCount boxes }
+        ensures value { IfSome result (λ budget. budget ≡ boxes) }
+    {
+        if boxes >= 1 && boxes <= 65535 {
+            Some(Budget(boxes as u32))
+        } else {
+            None
+        }
     }
-}
 
-/// Whether the last two words give a budget.
-fn ends_in_budget(words: &[String]) -> bool
-    ensures { IsTrue result ↔ EndsInBudget (map string_bytes words.now) }
-{
-    let count = words.len();
-    count >= 2 && is_at(words, count - 2, "--budget")
-}
-
-/// The budget that the word writes with 1 to 14 digits. None exactly where it is another word, 0, or above 65535.
-fn read_budget(word: &str) -> Option<u32>
-    ensures { FindsBudget (IsBudget word.now) result }
-{
-    let digits = word.as_bytes();
-    if digits.is_empty() || digits.len() > 14 || digits[0] == b'+' {
-        return None;
-    }
-    match word.parse::<u64>() {
-        Ok(boxes) if boxes >= 1 && boxes <= 65535 => Some(boxes as u32),
-        _ => None,
+    /// How many boxes these are.
+    pub fn boxes(self) -> u32
+        ensures value { result ≡ self }
+        ensures range { IsBoxCount result }
+    {
+        self.0
     }
 }

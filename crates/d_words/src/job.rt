@@ -4,8 +4,8 @@ ghost use Rattle.std.specs.Prelude.{◌↔◌, IsTrue, map, string_bytes, codes}
 ghost use Rattle.d_words.specs.Places.{EndsInSchedule, FindsJob};
 
 use crate::billing::{Billing, read_billing};
-use crate::budget::read_plan_end;
 use crate::places::{is_at, word_at};
+use crate::plan_end::read_plan_end;
 use crate::request::Task;
 
 /// What is wanted, and how the month is billed.

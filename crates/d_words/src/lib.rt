@@ -9,11 +9,13 @@ mod budget;
 mod job;
 mod law;
 mod places;
+mod plan_end;
 mod request;
 mod show;
 mod values;
 mod words;
 
+pub use budget::Budget;
 pub use law::{names_one_request, names_one_show};
 pub use request::{Request, Task};
 pub use show::{Show, read_show};

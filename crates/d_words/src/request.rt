@@ -1,5 +1,6 @@
 //! What the words of a request name.
 
+use crate::budget::Budget;
 use d_num::Watt;
 
 /// What the words of a request name.
@@ -26,8 +27,8 @@ pub enum Task<'a> {
     Plan {
         /// The name of the battery file.
         battery: &'a str,
-        /// The most boxes that may be made, from 1 to 65535; None where the words give no budget.
-        budget: Option<u32>,
+        /// The most boxes that the search for it may make; None where the words give no budget.
+        budget: Option<Budget>,
     },
     /// The bill of the readings alone.
     MeteredBill,

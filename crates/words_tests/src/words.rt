@@ -12,7 +12,7 @@ fn shown(alloc: Global, request: &Request<'_>) -> Result<String, Fail> {
     let front = format!(in alloc; "{records} {label} {readings} {rule} {peak}")?;
     let task = match request.task {
         Task::Plan { battery, budget } => {
-            let budget = budget.unwrap_or(0);
+            let budget = budget.map_or(0, |budget| budget.boxes());
             format!(in alloc; " plan {battery} {budget}")?
         }
         Task::MeteredBill => String::from_str(alloc, "")?,

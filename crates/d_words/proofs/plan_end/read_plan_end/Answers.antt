@@ -1,7 +1,7 @@
 use Rattle.std.proofs.Common.{map, string_bytes, ◌-◌, ◌+◌, ◌∙◌, ℕ, ap, refl, sym, true≢false, slice_index_or, []}
 use Rattle.std.proofs.lemmas.List.{length-map}
 use Rattle.d_words.proofs.WordPlaces.{in_front, no_limited, no_budget, no_unlimited, limited}
-use Rattle.d_words.proofs.budget.read_plan_end.Goals as goal
+use Rattle.d_words.proofs.plan_end.read_plan_end.Goals as goal
 
 pub returns-in_err-billing : goal.returns-in_err-billing
 returns-in_err-billing c =
