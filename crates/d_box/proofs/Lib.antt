@@ -6,3 +6,4 @@ mod FoundFacts
 mod SizeFacts
 mod SplitFacts
 mod TrialFacts
+pub mod PlaceOfSplit

@@ -1,5 +1,5 @@
 -- What holds of the halves of every box that is split. All of it is our own rule.
-use Rattle.std.specs.Prelude.{ℕ, ℤ, ◌≡◌, ◌⊎◌, ◌<◌, ◌≤◌, ◌+◌, ◌*◌, max, List, [], ◌∷◌, Some, length}
+use Rattle.std.specs.Prelude.{ℕ, ℤ, ◌≡◌, ◌⊎◌, ◌<◌, ◌≤◌, ◌+◌, ◌*◌, max, List, [], ◌∷◌, Option, Some, length}
 use Rattle.std.specs.List.{Contains}
 use Rattle.d_tier.specs.declared.tier.Tier.{Tier}
 use Rattle.d_tier.specs.declared.peak.Peak.{Peak as Group}
@@ -42,6 +42,12 @@ SplitsAreCuts =
     (space : Space) (energy : List (List Tier)) (groups : List Group) (candidates : List (List ℤ)) (split : Split)
     → IsBox space → length energy ≤ 36 → length groups ≤ 37 → length candidates ≡ length groups
     → IsSplitOf space energy groups candidates (Some split) → IsCut candidates space split
+
+-- a box has one split
+abbrev pub SplitsAreOne : Type 0
+SplitsAreOne =
+    (space : Space) (energy : List (List Tier)) (groups : List Group) (candidates : List (List ℤ)) (one other : Option Split)
+    → IsSplitOf space energy groups candidates one → IsSplitOf space energy groups candidates other → one ≡ other
 
 -- exactly one of both
 abbrev pub OneOf : Type 0 → Type 0 → Type 0

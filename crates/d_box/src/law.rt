@@ -1,7 +1,7 @@
 //! What holds of all boxes and their halves.
 
 ghost use Rattle.d_box.specs.Candidates.{RangesHaveCandidates};
-ghost use Rattle.d_box.specs.Halves.{SplitsAreCuts, IsPeakCover, IsTotalCover, AreWithin, AreBoxes, AreHalvesEnds, AreShared};
+ghost use Rattle.d_box.specs.Halves.{SplitsAreCuts, SplitsAreOne, IsPeakCover, IsTotalCover, AreWithin, AreBoxes, AreHalvesEnds, AreShared};
 
 /// The range from the least to the greatest candidate of a group has each of them, and goes from a candidate to a candidate.
 pub fn ranges_have_candidates()
@@ -11,6 +11,11 @@ pub fn ranges_have_candidates()
 /// The split of a box is a place where the box may be split.
 pub fn splits_are_cuts()
     ensures { SplitsAreCuts }
+{}
+
+/// A box has one split: two that meet the rules of a split are the same.
+pub fn splits_are_one()
+    ensures { SplitsAreOne }
 {}
 
 /// What the box holds, with a peak among the candidates, exactly one half of a peak's split holds.

@@ -5,3 +5,6 @@ pub mod Outcomes
 pub mod Promises
 pub mod Laws
 pub mod Problems
+pub mod Budgets
+pub mod Rooms
+pub mod Growths
