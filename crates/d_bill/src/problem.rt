@@ -187,8 +187,8 @@ impl Problem {
         self.groups().is_empty() && self.is_untiered()
     }
 
-    /// Whether no energy period has two tiers or more.
-    fn is_untiered(&self) -> bool
+    /// Whether no energy period has two tiers or more: then each period has one price.
+    pub fn is_untiered(&self) -> bool
         ensures { IsTrue result ↔ (tiered self.now ≡ []) }
     {
         for period in 0..36u8 {
