@@ -5,7 +5,7 @@ mod FeasibleWays
 mod SlopeFacts
 mod PowerFacts
 mod CapSums
-mod DrawnFacts
+pub mod DrawnFacts
 mod LayerFacts
 mod LowFacts
 mod WayFacts

@@ -19,7 +19,7 @@ pub use cut::halves;
 pub use held::holds;
 pub use law::{
     halves_are_boxes, halves_are_within, halves_keep_ends, halves_share_choices, peak_halves_cover,
-    ranges_have_candidates, splits_are_cuts, total_halves_cover,
+    ranges_have_candidates, splits_are_cuts, splits_are_one, total_halves_cover,
 };
 pub use slopes::Slopes;
 pub use space::{Range, Space, Split};

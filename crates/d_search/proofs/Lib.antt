@@ -10,3 +10,7 @@ mod SameFacts
 pub mod PromiseFacts
 pub mod BudgetFacts
 mod ThereFacts
+pub mod LawfulFacts
+pub mod CountedFacts
+pub mod CandidateFacts
+pub mod SearchFacts

@@ -8,3 +8,4 @@ pub mod Problems
 pub mod Budgets
 pub mod Rooms
 pub mod Growths
+pub mod ProblemLaws

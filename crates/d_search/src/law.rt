@@ -1,6 +1,7 @@
 //! What holds of all outcomes.
 
 ghost use Rattle.d_search.specs.Laws.{HasAtMostOneOutcome, HasExactlyOneOutcome};
+ghost use Rattle.d_search.specs.ProblemLaws.{HasExactlyOneSearch, SearchesKeepPromises, SearchesSuffice};
 
 /// Two outcomes of the same rules and of the same budget of nodes are the same: verdict, bill, bound, schedule and tree.
 pub fn one_outcome()
@@ -10,4 +11,20 @@ pub fn one_outcome()
 /// Where nodes have a bound exactly where they have a bill, exactly one outcome comes of each budget of at least one node.
 pub fn outcomes_are_there()
     ensures { HasExactlyOneOutcome }
+{}
+
+/// Exactly one outcome comes of the search of a problem that may make at least one node.
+pub fn searched_once()
+    ensures { HasExactlyOneSearch }
+{}
+
+/// Where no period is tiered a search keeps its promises.
+pub fn searches_keep_promises()
+    ensures { SearchesKeepPromises }
+{}
+
+/// Where no period is tiered, and one candidate of each group can be chosen in N ways, 2 * N - 1 nodes suffice: the search ends with the
+/// least bill, or with no feasible schedule.
+pub fn searches_suffice()
+    ensures { SearchesSuffice }
 {}
