@@ -1,8 +1,9 @@
 -- What a search holds between its splits. Our own words; only calls of this crate cite the parts.
-use Rattle.std.specs.Prelude.{◌≡◌, ◌⊎◌, ℕ, ◌+◌, ◌≤◌, ℤ, List, [], ◌∷◌, ◌++◌, Option, Some, None, Bool, false, length, slice_get, option_map, sum_by}
+use Rattle.std.specs.Prelude.{◌≡◌, ◌⊎◌, ℕ, ◌+◌, ◌<◌, ◌≤◌, ⊤, ℤ, List, [], ◌∷◌, ◌++◌, Option, Some, None, Bool, false, length, slice_get, option_map, sum_by}
 use Rattle.std.specs.Vec.{vec_capacity}
 use Rattle.d_box.specs.declared.space.Space.{Space}
 use Rattle.d_box.specs.declared.space.Split.{Split}
+use Rattle.d_box.specs.declared.space.Split.TheVariants.{Total, Peak}
 use Rattle.d_bill.specs.Inputs.{Inputs}
 use Rattle.d_bound.specs.BoxLaws.{IsAtMost}
 use Rattle.d_bound.specs.Roots.{IsProblemBox}
@@ -76,6 +77,11 @@ HasKept least kept trial bill new_least new_kept new_trial =
 abbrev pub IsNext : ℕ → ℕ → Option ℤ → Key → Option Verdict → Type 0
 IsNext budget count bill key None = IsBelow (Some key.bound) bill × (key.point ≡ false) × (count + 2 ≤ budget)
 IsNext budget count bill key (Some verdict) = (least : ℤ) → bill ≡ Some least → IsStop budget count verdict (Some key) least
+
+-- the split is that of a total, or of the peak of one of so many groups
+abbrev pub IsGroupThere : ℕ → Split → Type 0
+IsGroupThere count (Total index at) = ⊤
+IsGroupThere count (Peak group at) = group < count
 
 -- a split of a box, with its halves
 pub record IsHalved (r : Rules) (space : Space) (split : Split) (left right : Space) : Type 0 where

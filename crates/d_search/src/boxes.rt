@@ -4,7 +4,8 @@ ghost use Rattle.std.specs.Prelude.{◌≡◌, [], ◌≤◌, length, option_map
 ghost use Rattle.d_bill.specs.Slopes.{tiered};
 ghost use Rattle.d_bound.specs.Bounders.{IsBounderOf};
 ghost use Rattle.d_bound.specs.Roots.{IsProblemBox};
-ghost use Rattle.d_search.specs.Growths.{IsHalved};
+ghost use Rattle.d_box.specs.Halves.{IsCut, above_of, below_of};
+ghost use Rattle.d_search.specs.Growths.{IsGroupThere, IsHalved};
 ghost use Rattle.d_search.specs.Problems.{rules_of};
 
 use d_bill::Problem;
@@ -48,13 +49,28 @@ pub(crate) fn place_of(problem: &Problem, candidates: &Candidates, space: &Space
     requires untiered { tiered problem.now ≡ [] }
     requires long { length candidates.now ≡ length problem.now.peaks }
     requires boxed { IsProblemBox candidates.now space.now }
-    ensures { result ≡ (rules_of problem.now candidates.now).split_of space.now }
+    ensures place { result ≡ (rules_of problem.now candidates.now).split_of space.now }
+    ensures cut { IfSome result (IsCut candidates.now space.now) }
 {
+    splits_are_cuts();
     split_of(space, &[], problem.groups(), candidates)
 }
 
+/// Where the left half of a split ends.
+fn end_of(split: Split) -> i64
+    ensures { result ≡ below_of split }
+{
+    match split {
+        Split::Total { index: _, at } => at,
+        Split::Peak { group: _, at } => at,
+    }
+}
+
 /// Where the right half of a split begins.
-fn begin_of(candidates: &Candidates, split: Split) -> i64 {
+fn begin_of(candidates: &Candidates, split: Split) -> i64
+    requires { IsGroupThere (length candidates.now) split }
+    ensures { result ≡ above_of candidates.now split }
+{
     match split {
         Split::Total { index: _, at } => at,
         Split::Peak { group, at } => candidates.next_above(group, at),
@@ -76,13 +92,10 @@ pub(crate) fn halve(
     ensures left { IfSome result (λ _. IsProblemBox candidates.now left.new) }
     ensures right { IfSome result (λ _. IsProblemBox candidates.now right.new) }
 {
-    splits_are_cuts();
     halves_are_boxes();
     let split = place_of(problem, candidates, space)?;
+    let below = end_of(split);
     let above = begin_of(candidates, split);
-    let below = match split {
-        Split::Total { index: _, at } | Split::Peak { group: _, at } => at,
-    };
     halves(space, split, below, above, left, right);
     Some(split)
 }

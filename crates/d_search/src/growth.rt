@@ -1,6 +1,6 @@
 //! What a search has found so far: its nodes, the keys of those that are open, and the least bill.
 
-ghost use Rattle.std.specs.Prelude.{◌≡◌, ◌<◌, ◌+◌, ◌^◌, ◌++◌, ◌∷◌, [], Some, None, length, slice_get, slice_set, IfOk};
+ghost use Rattle.std.specs.Prelude.{◌≡◌, ◌<◌, ◌≤◌, ◌+◌, ◌^◌, ◌++◌, ◌∷◌, [], Some, None, length, slice_get, slice_set, IfOk};
 ghost use Rattle.std.specs.List.Sorted.{IsPermutation};
 ghost use Rattle.std.specs.Vec.{vec_capacity};
 ghost use Rattle.d_search.specs.Growths.{HasKept, key_with, one_key};
@@ -10,7 +10,7 @@ ghost use Rattle.d_search.specs.declared.tree.TreeNode.{TreeNode};
 
 use crate::tree::TreeNode;
 use d_bound::Node;
-use d_box::{Space, Split};
+use d_box::{Slopes, Space, Split};
 use d_front::{Front, Key};
 use d_num::{Money, NoMemory};
 use std::alloc::Global;
@@ -45,17 +45,24 @@ impl Growth {
 pub(crate) fn push_leaf(nodes: &mut Vec<TreeNode>, space: &Space, node: &Node)
     requires { length nodes.old.items < vec_capacity nodes.old }
     ensures nodes { nodes.new.items ≡ nodes.old.items ++ record { space = space.now; node = node.now; split = None; left = 0; right = 0 } ∷ [] }
-    ensures space { vec_capacity nodes.new ≡ vec_capacity nodes.old }
+    ensures space { vec_capacity nodes.old ≤ vec_capacity nodes.new }
 {
-    nodes
-        .push(TreeNode {
-            space: *space,
-            node: *node,
-            split: None,
-            left: 0,
-            right: 0,
-        })
-        .unwrap();
+    let bound = node.bound;
+    let rates = node.slopes.rates;
+    let bill = node.bill;
+    let node = Node {
+        bound,
+        slopes: Slopes { rates },
+        bill,
+    };
+    let leaf = TreeNode {
+        space: *space,
+        node,
+        split: None,
+        left: 0,
+        right: 0,
+    };
+    nodes.push(leaf).unwrap();
 }
 
 /// Writes into the node of this number where it was split; its halves get the next two numbers.
