@@ -178,7 +178,7 @@ impl Problem {
         }
     }
 
-    /// Whether no energy period has two tiers or more.
+    /// Whether no energy period has two tiers or more: then each period has one price.
     pub fn is_untiered(&self) -> bool
         ensures { IsTrue result ↔ (tiered self.now ≡ []) }
     {

@@ -14,6 +14,11 @@ pub four_parts : {X : Type 0} (old one two three four a b c d : List X) → one 
     → four ≡ old ++ (a ++ (b ++ (c ++ d)))
 four_parts {X} old one two three four a b c d e1 e2 e3 e4 = rw (e4, e3, e2, e1) (simp append_assoc refl)
 
+-- five parts behind a text
+pub five_parts : {X : Type 0} (old one two three four five a b c d e : List X) → one ≡ old ++ a → two ≡ one ++ b → three ≡ two ++ c → four ≡ three ++ d
+    → five ≡ four ++ e → five ≡ old ++ (a ++ (b ++ (c ++ (d ++ e))))
+five_parts {X} old one two three four five a b c d e e1 e2 e3 e4 e5 = rw (e5, e4, e3, e2, e1) (simp append_assoc refl)
+
 -- four parts of a new text
 pub four_new : {X : Type 0} (old one two three four a b c d : List X) → old ≡ [] → one ≡ old ++ a → two ≡ one ++ b → three ≡ two ++ c → four ≡ three ++ d
     → four ≡ a ++ (b ++ (c ++ d))

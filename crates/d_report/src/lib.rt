@@ -5,6 +5,7 @@
 
 mod charges;
 mod dates;
+mod finding;
 mod hours;
 mod lines;
 mod periods;
@@ -14,6 +15,7 @@ mod tariff;
 
 pub use charges::bill_text;
 pub use dates::month_text;
+pub use finding::{Finding, Found};
 pub use lines::{line_text, put_line};
 pub use plan::plan_text;
 pub use shown::{put_behind_blank, put_shown};

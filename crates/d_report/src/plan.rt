@@ -10,28 +10,35 @@ ghost use Rattle.d_bill.specs.Bills.{metered_bill};
 ghost use Rattle.d_report.specs.Plans as spec;
 
 use crate::charges::put_bill;
-use crate::lines::{put_line, put_money, put_title};
+use crate::finding::{Finding, Found};
+use crate::lines::{put_line, put_line_end, put_money, put_number, put_title};
 use d_batt::Mode;
 use d_bill::{Problem, Tally};
 use d_cal::start_text;
 use d_num::{Money, NoMemory};
 use std::alloc::{AllocError, Global};
 
-/// The text of a plan by a feasible schedule: what is answered, what it costs and what the readings alone do, the lines of its bill, and a
-/// line for each interval.
+/// The text of a plan by a feasible schedule: what is answered, what is known of its bill, what it costs and what the readings alone do,
+/// the lines of its bill, and a line for each interval.
 pub fn plan_text(
     alloc: Global,
     label: &str,
     problem: &Problem,
     schedule: &[u8],
+    finding: &Finding,
 ) -> Result<Vec<u8>, NoMemory>
     requires { IsFeasible problem.now schedule.now }
-    ensures { IfOk result (λ text. text.items ≡ spec.plan_text problem.now label.now schedule.now) }
+    ensures { IfOk result (λ text. text.items ≡ spec.plan_text problem.now label.now schedule.now finding.now) }
 {
     let tally = tally_of(problem, schedule);
     let mut text = Vec::new(alloc);
     put_title(alloc, &mut text, "plan", label, problem)?;
-    put_verdict(&mut text, problem.bill(&tally), metered_bill(problem))?;
+    put_verdict(
+        &mut text,
+        problem.bill(&tally),
+        metered_bill(problem),
+        finding,
+    )?;
     put_bill(&mut text, problem, &tally)?;
     put_schedule(alloc, &mut text, problem, schedule)?;
     Ok(text)
@@ -60,13 +67,59 @@ fn metered_bill(problem: &Problem) -> Money
 }
 
 /// Adds the lines of a plan before those of its bill.
-fn put_verdict(text: &mut Vec<u8>, bill: Money, metered: Money) -> Result<(), NoMemory>
-    ensures { OnOk result (text.new.items ≡ text.old.items ++ spec.verdict_lines bill metered) }
+fn put_verdict(
+    text: &mut Vec<u8>,
+    bill: Money,
+    metered: Money,
+    finding: &Finding,
+) -> Result<(), NoMemory>
+    ensures { OnOk result (text.new.items ≡ text.old.items ++ spec.verdict_lines bill metered finding.now) }
 {
-    put_line(text, "verdict least", "")?;
+    put_found(text, finding.found)?;
     put_money(text, "bill ", bill)?;
+    put_lower(text, finding.found, finding.lower)?;
     put_money(text, "metered ", metered)?;
-    put_line(text, "boxes 1", "")
+    put_boxes(text, finding.boxes)
+}
+
+/// Adds the line that says whether the bill is the least.
+fn put_found(text: &mut Vec<u8>, found: Found) -> Result<(), NoMemory>
+    ensures { OnOk result (text.new.items ≡ text.old.items ++ spec.found_line found) }
+{
+    match found {
+        Found::Least => put_line(text, "verdict least", ""),
+        Found::GapBudget => put_line(text, "verdict gap budget", ""),
+        Found::GapDuality => put_line(text, "verdict gap duality", ""),
+    }
+}
+
+/// Adds the line of the bill below which no schedule comes, where the plan's bill may not be the least.
+fn put_lower(text: &mut Vec<u8>, found: Found, lower: Option<Money>) -> Result<(), NoMemory>
+    ensures { OnOk result (text.new.items ≡ text.old.items ++ spec.lower_line found lower) }
+{
+    match found {
+        Found::Least => Ok(()),
+        Found::GapBudget => put_bound(text, lower),
+        Found::GapDuality => put_bound(text, lower),
+    }
+}
+
+/// Adds the line of the bill below which no schedule comes, where it is known.
+fn put_bound(text: &mut Vec<u8>, lower: Option<Money>) -> Result<(), NoMemory>
+    ensures { OnOk result (text.new.items ≡ text.old.items ++ spec.bound_line lower) }
+{
+    match lower {
+        Some(lower) => put_money(text, "lower ", lower),
+        None => Ok(()),
+    }
+}
+
+/// Adds the line of the number of boxes.
+fn put_boxes(text: &mut Vec<u8>, boxes: u32) -> Result<(), NoMemory>
+    ensures { OnOk result (text.new.items ≡ text.old.items ++ spec.boxes_line boxes) }
+{
+    put_number(text, "boxes ", i128::from(boxes))?;
+    put_line_end(text)
 }
 
 /// The lines of a schedule, one an interval.

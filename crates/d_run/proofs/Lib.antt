@@ -9,5 +9,8 @@ mod OddRows
 mod FilesKnown
 mod ScheduleBreaks
 mod PlanStages
+mod SearchFacts
+mod PlanFacts
+mod BudgetFacts
 mod SettleStages
 mod RowStages

@@ -1,18 +1,20 @@
 -- To every list of words and all files there is exactly one answer.
-use Rattle.std.proofs.Common.{◌≡◌, ◌⊎◌, inl, inr, ℕ, ◌<◌, ◌≤◌, List, [], ◌∷◌, codes, length, refl, sym, ap, subst, ◌∙◌, arith}
+use Rattle.std.proofs.Common.{◌≡◌, ◌⊎◌, inl, inr, ℕ, ◌^◌, ◌<◌, ◌≤◌, Option, Some, List, [], ◌∷◌, codes, length, refl, sym, ap, subst, ◌∙◌, arith}
 use Rattle.d_desk.specs.Scene.{Files, bytes_in}
 use Rattle.d_bill.specs.Inputs.{Inputs, IsInRange}
 use Rattle.d_bill.specs.Schedules.{IsFeasible, IsFirstBreak}
 use Rattle.d_bill.specs.Join.{IsSettled}
-use Rattle.d_bill.specs.Law.{IsPlain}
 use Rattle.d_bill.specs.Slopes.{tiered}
 use Rattle.d_bill.specs.Totals.{tally_of}
 use Rattle.d_bill.proofs.Laws.{break_excludes, first_break_same}
-use Rattle.d_bill.proofs.LeastFacts.{least_of_energy}
-use Rattle.d_bound.specs.Law.{IsOnlyFirst}
-use Rattle.d_bound.proofs.RateFacts.{fair_of}
-use Rattle.d_bound.proofs.LeastWays.{has_one_first}
-use Rattle.d_words.specs.Words.{Asked, Wanted, IsRequest, plan_with, metered_bill as wants_metered_bill, schedule_bill}
+use Rattle.d_bound.specs.BoxLaws.{IsUntiered}
+use Rattle.d_search.specs.declared.outcome.Outcome.{Outcome}
+use Rattle.d_search.specs.declared.outcome.Verdict.{Verdict as Ending}
+use Rattle.d_search.specs.declared.outcome.Verdict.TheVariants as ending
+use Rattle.d_search.specs.Problems.{IsSearched, IsPromised}
+use Rattle.d_report.specs.declared.finding.Found.{Found}
+use Rattle.d_report.specs.declared.finding.Found.TheVariants as found
+use Rattle.d_words.specs.Words.{Asked, Wanted, IsRequest, budget_of, plan_with, metered_bill as wants_metered_bill, schedule_bill}
 use Rattle.d_report.specs.Charges.{bill_text}
 use Rattle.d_report.specs.Plans.{plan_text}
 use Rattle.d_run.specs.Text.{break_text}
@@ -24,17 +26,20 @@ use Rattle.d_tariff.specs.Terms.{Terms}
 use Rattle.d_words.specs.Shows.{Seen, IsShow}
 use Rattle.d_words.proofs.ShowFound.{one_show, show_or_none, show_alone}
 use Rattle.d_run.specs.RecordText.{hourly_text}
-use Rattle.d_run.specs.Answer.{Answer, Reads, is_too_long, is_refused, goes_on, says, after_opening, refused, IsPlanned, no_schedule, least, IsBilled, billed, broken, IsFor, IsPlannable, has_group, has_tiers, is_plain, no_storage, joined, Settles, unsettled, settled, IsWithTerms, IsAnswerTo, IsTariffOf, IsShownTo, labelled_in, IsAnswer, rule_of, no_request, request, show, rows_in, ReadsBattery, ReadsSchedule, RefusesRecord, RefusesReadings, MeansReadings, RefusesBattery, MeansBattery, RefusesSchedule, MeansSchedule, longest_file, longest_record}
+use Rattle.d_run.specs.Answer.{Answer, Reads, is_too_long, is_refused, goes_on, says, after_opening, refused, IsPlanned, no_schedule, least, gap, gap_of, finding, IsPlanFor, IsWithinSizes, is_too_large, is_within, product_for, IsBilled, billed, broken, IsFor, IsPlannable, has_tiers, is_untiered, no_storage, joined, Settles, unsettled, settled, IsWithTerms, IsAnswerTo, IsTariffOf, IsShownTo, labelled_in, IsAnswer, rule_of, no_request, request, show, rows_in, ReadsBattery, ReadsSchedule, RefusesRecord, RefusesReadings, MeansReadings, RefusesBattery, MeansBattery, RefusesSchedule, MeansSchedule, longest_file, longest_record}
 use Rattle.d_run.specs.Law.{HasAnswer}
 use Rattle.d_run.specs.declared.verdict.Verdict.TheVariants as verdict
 use Rattle.d_run.specs.declared.fault.Refusal.{Refusal}
-use Rattle.d_run.specs.declared.fault.Refusal.TheVariants.{Words, LongRecord, LongReadings, GroupsNotYet, TiersNotYet, LongBattery, LongSchedule}
+use Rattle.d_run.specs.declared.fault.Refusal.TheVariants.{Words, LongRecord, LongReadings, TiersNotYet, LongBattery, Product, LongSchedule}
 use Rattle.d_run.proofs.StageFacts.{IsKnown, known_refused, known_value}
 use Rattle.d_bill.proofs.Deciding.{Decided, holds, fails, at_most}
 use Rattle.d_words.proofs.RequestFound.{request_or_none, one_request}
 use Rattle.d_run.proofs.RecordFound.{record_known}
 use Rattle.d_run.proofs.FilesKnown.{month_known, battery_known, battery_is, schedule_known, joined_in_range}
-use Rattle.d_run.proofs.PlanStages.{plain_follows}
+use Rattle.d_run.proofs.PlanStages.{untiered_follows}
+use Rattle.d_run.proofs.PlanFacts.{none_feasible, is_least, is_between}
+use Rattle.d_run.proofs.BudgetFacts.{IsOnlyBudget, budget_one, given_some}
+use Rattle.d_run.proofs.SearchFacts.{IsOnlySearch, searched_once, search_promise}
 use Rattle.d_run.proofs.SettleStages.{settled_decided, settled_follows}
 use Rattle.d_run.proofs.ScheduleBreaks.{break_or_feasible}
 
@@ -80,22 +85,92 @@ module _ {V : Type 0} (files : Files) (name : List ℕ) (limit : ℕ) (too_long 
           let above : limit < length (bytes_in files name) = omega arith in
           record { answer = after_opening name (refused too_long); is = is_too_long above refl; only = long_only above }
 
--- plain inputs in range have one plan
-planned_one : (i : Inputs) (label : List ℕ) → IsInRange i → IsPlain i → HasOne (IsPlanned i label)
-planned_one i label fine plain = by_schedule (has_one_first i (fair_of i fine))
+-- a search that has one outcome has one answer
+module _ (i : Inputs) (budget : ℕ) (label : List ℕ) (o : Outcome) (only : IsOnlySearch i budget o) (promised : IsPromised i budget o) where
+  -- the answer by an outcome with its gap
+  gap_answer : Found → Outcome → Answer
+  gap_answer f p = says verdict.Gap (plan_text i label p.schedule (finding f p))
+
+  -- the answer by an outcome with the least bill
+  least_answer : Outcome → Answer
+  least_answer p = says verdict.Done (plan_text i label p.schedule (finding found.Least p))
+
+  -- the verdicts of all outcomes are one
+  same_verdict : (p : Outcome) → IsSearched i budget p → p.verdict ≡ o.verdict
+  same_verdict p is = ap (λ (q : Outcome). q.verdict) (only.only p is)
+
+  none_only : o.verdict ≡ ending.Infeasible → (other : Answer) → IsPlanned i budget label other → other ≡ says verdict.NoSchedule (line (codes "no schedule"))
+  none_only is other (no_schedule p search ended none same) = same
+  none_only is other (least p search ended best same) = let e = same_verdict p search in absurd cc
+  none_only is other (gap p search f ended between same) = let e = same_verdict p search in absurd cc
+
+  least_only : o.verdict ≡ ending.Least → (other : Answer) → IsPlanned i budget label other → other ≡ least_answer o
+  unfolding least_answer
+  least_only is other (no_schedule p search ended none same) = let e = same_verdict p search in absurd cc
+  least_only is other (least p search ended best same) = same ∙ ap least_answer (only.only p search)
+  least_only is other (gap p search f ended between same) = let e = same_verdict p search in absurd cc
+
+  gap_only : (f : Found) → gap_of o.verdict ≡ Some f → (other : Answer) → IsPlanned i budget label other → other ≡ gap_answer f o
+  unfolding gap_answer
+  gap_only f is other (no_schedule p search ended none same) = let e = same_verdict p search in absurd cc
+  gap_only f is other (least p search ended best same) = let e = same_verdict p search in absurd cc
+  gap_only f is other (gap p search g ended between same) =
+      let e = same_verdict p search in
+      let one : g ≡ f = cc in
+      same ∙ ap (gap_answer g) (only.only p search) ∙ ap (λ (h : Found). gap_answer h o) one
+
+  pub outcome_one : HasOne (IsPlanned i budget label)
+  unfolding least_answer gap_answer
+  outcome_one = by_verdict o.verdict refl
+    where
+      by_gap : (f : Found) → gap_of o.verdict ≡ Some f → HasOne (IsPlanned i budget label)
+      by_gap f is = record { answer = gap_answer f o; is = gap o only.is f is (is_between i budget o promised f is) refl; only = gap_only f is }
+
+      by_verdict : (ended : Ending) → o.verdict ≡ ended → HasOne (IsPlanned i budget label)
+      by_verdict ending.Infeasible is =
+          record { answer = _; is = no_schedule o only.is is (none_feasible i budget o promised is) refl; only = none_only is }
+      by_verdict ending.Least is = record { answer = least_answer o; is = least o only.is is (is_least i budget o promised is) refl; only = least_only is }
+      by_verdict ending.GapBudget is = by_gap found.GapBudget (ap gap_of is)
+      by_verdict ending.GapDuality is = by_gap found.GapDuality (ap gap_of is)
+
+-- a problem without tiered periods has one answer for each budget
+planned_one : (i : Inputs) (budget : ℕ) (label : List ℕ) → IsUntiered i → 1 ≤ budget → HasOne (IsPlanned i budget label)
+planned_one i budget label untiered some =
+    let one = searched_once i budget some in
+    outcome_one i budget label one.0 one.1 (search_promise i budget one.0 untiered one.1.is)
+
+-- a search is within the limit of its sizes, or it isn't
+sizes_one : (i : Inputs) (budget : ℕ) (Next : Answer → Type 0) → HasOne Next → HasOne (IsWithinSizes i budget Next)
+sizes_one i budget Next one = by_size (at_most (product_for i budget) (2 ^ 24))
   where
-    no_other : ((s : List ℕ) → IsFeasible i s → ⊥) → (a : Answer) → IsPlanned i label a → a ≡ says verdict.NoSchedule (line (codes "no schedule"))
-    no_other none a (no_schedule also is) = is
-    no_other none a (least s first also is) = absurd (none s first.feasible)
+    large_only : 2 ^ 24 < product_for i budget → (other : Answer) → IsWithinSizes i budget Next other → other ≡ refused (Product (product_for i budget))
+    large_only large other (is_too_large also is) = is
+    large_only large other (is_within within next) = absurd (omega (arith, large, within))
 
-    least_other : (s : List ℕ) → IsOnlyFirst i s → (a : Answer) → IsPlanned i label a → a ≡ says verdict.Done (plan_text i label s)
-    least_other s only a (no_schedule none is) = absurd (none s only.first.feasible)
-    least_other s only a (least z second also is) = is ∙ ap (λ (w : List ℕ). says verdict.Done (plan_text i label w)) (only.only z second)
+    within_only : product_for i budget ≤ 2 ^ 24 → (other : Answer) → IsWithinSizes i budget Next other → other ≡ one.answer
+    within_only within other (is_too_large large is) = absurd (omega (arith, large, within))
+    within_only within other (is_within also next) = one.only other next
 
-    by_schedule : ((s : List ℕ) → IsFeasible i s → ⊥) ⊎ ((s : List ℕ) × IsOnlyFirst i s) → HasOne (IsPlanned i label)
-    by_schedule (inl none) = record { answer = _; is = no_schedule none refl; only = no_other none }
-    by_schedule (inr first) =
-        record { answer = _; is = least first.0 first.1.first (least_of_energy i first.0 fine plain first.1.first) refl; only = least_other first.0 first.1 }
+    by_size : Decided (product_for i budget ≤ 2 ^ 24) → HasOne (IsWithinSizes i budget Next)
+    by_size (holds within) = record { answer = one.answer; is = is_within within one.is; only = within_only within }
+    by_size (fails more) =
+        let large : 2 ^ 24 < product_for i budget = omega (arith, more) in
+        record { answer = _; is = is_too_large large refl; only = large_only large }
+
+-- and it has one budget
+plan_one : (i : Inputs) (given : Option ℕ) (label : List ℕ) → IsUntiered i → ((budget : ℕ) → given ≡ Some budget → 1 ≤ budget) → HasOne (IsPlanFor i given label)
+plan_one i given label untiered some = by_budget (budget_one i given untiered.range some)
+  where
+    by_budget : (budget : ℕ) × IsOnlyBudget i given budget → HasOne (IsPlanFor i given label)
+    by_budget (budget, one) =
+        let planned = sizes_one i budget (IsPlanned i budget label) (planned_one i budget label untiered one.some) in
+        record {
+          answer = planned.answer;
+          is = record { budget = budget; budget_is = one.is; planned = planned.is };
+          only = λ other is.
+              let P : ℕ → Type 0 = λ b. IsWithinSizes i b (IsPlanned i b label) other in
+              planned.only other (subst P (one.only is.budget is.budget_is) is.planned);
+        }
 
 -- a list is empty or not
 empty_or_not : {X : Type 0} (list : List X) → (list ≡ []) ⊎ (list ≡ [] → ⊥)
@@ -103,26 +178,19 @@ empty_or_not {X} [] = inl refl
 empty_or_not {X} (x ∷ xs) = inr (λ same. cc)
 
 -- a month is planned in one way, or refused for one cause
-plannable_one : (i : Inputs) (Next : Answer → Type 0) → (IsPlain i → HasOne Next) → HasOne (IsPlannable i Next)
-plannable_one i Next next = by_groups (empty_or_not i.peaks) (empty_or_not (tiered i))
+plannable_one : (i : Inputs) (Next : Answer → Type 0) → (tiered i ≡ [] → HasOne Next) → HasOne (IsPlannable i Next)
+plannable_one i Next next = by_tiers (empty_or_not (tiered i))
   where
-    group_only : (i.peaks ≡ [] → ⊥) → (other : Answer) → IsPlannable i Next other → other ≡ refused GroupsNotYet
-    group_only some other (has_group also is) = is
-    group_only some other (has_tiers none also is) = absurd (some none)
-    group_only some other (is_plain plain follows) = absurd (some plain.groups)
+    tiers_only : (tiered i ≡ [] → ⊥) → (other : Answer) → IsPlannable i Next other → other ≡ refused TiersNotYet
+    tiers_only some other (has_tiers more is) = is
+    tiers_only some other (is_untiered none follows) = absurd (some none)
 
-    tiers_only : i.peaks ≡ [] → (tiered i ≡ [] → ⊥) → (other : Answer) → IsPlannable i Next other → other ≡ refused TiersNotYet
-    tiers_only none some other (has_group also is) = absurd (also none)
-    tiers_only none some other (has_tiers also more is) = is
-    tiers_only none some other (is_plain plain follows) = absurd (some plain.tiers)
+    untiered_one : tiered i ≡ [] → HasOne Next → HasOne (IsPlannable i Next)
+    untiered_one none one = record { answer = one.answer; is = is_untiered none one.is; only = λ other is. one.only other (untiered_follows i Next none other is) }
 
-    plain_one : (plain : IsPlain i) → HasOne Next → HasOne (IsPlannable i Next)
-    plain_one plain one = record { answer = one.answer; is = is_plain plain one.is; only = λ other is. one.only other (plain_follows i Next plain other is) }
-
-    by_groups : (i.peaks ≡ []) ⊎ (i.peaks ≡ [] → ⊥) → (tiered i ≡ []) ⊎ (tiered i ≡ [] → ⊥) → HasOne (IsPlannable i Next)
-    by_groups (inr some) tiers = record { answer = _; is = has_group some refl; only = group_only some }
-    by_groups (inl none) (inr some) = record { answer = _; is = has_tiers none some refl; only = tiers_only none some }
-    by_groups (inl none) (inl flat) = let plain : IsPlain i = record { groups = none; tiers = flat } in plain_one plain (next plain)
+    by_tiers : (tiered i ≡ []) ⊎ (tiered i ≡ [] → ⊥) → HasOne (IsPlannable i Next)
+    by_tiers (inr some) = record { answer = _; is = has_tiers some refl; only = tiers_only some }
+    by_tiers (inl none) = untiered_one none (next none)
 
 -- a schedule has one bill, or one first break
 billed_one : (i : Inputs) (label schedule : List ℕ) → length schedule ≡ length i.net → HasOne (IsBilled i label schedule)
@@ -160,15 +228,17 @@ settles_one text terms metered Next one = by_pace (settled_decided terms metered
 -- the answer to a request is one
 module _ (files : Files) (asked : Asked) where
   task_one : (problem : Storage → Inputs) (wanted : Wanted) → ((storage : Storage) → IsStorage storage → IsInRange (problem storage))
-      → ((storage : Storage) → IsPlain (problem no_storage) → IsPlain (problem storage))
+      → ((storage : Storage) → tiered (problem no_storage) ≡ [] → tiered (problem storage) ≡ [])
+      → ((budget : ℕ) → budget_of wanted ≡ Some budget → 1 ≤ budget)
       → HasOne (IsFor files asked.label problem wanted)
-  task_one problem (plan_with battery) fine plain =
-      plannable_one (problem no_storage) (ReadsBattery files battery (λ storage. IsPlanned (problem storage) asked.label))
+  task_one problem (plan_with battery given) fine none some =
+      plannable_one (problem no_storage) (ReadsBattery files battery (λ storage. IsPlanFor (problem storage) given asked.label))
       (λ flat. reads_one files battery longest_file LongBattery (RefusesBattery (rows_in files battery)) (MeansBattery (rows_in files battery))
-      (λ storage. IsPlanned (problem storage) asked.label) (battery_known (rows_in files battery))
-      (λ storage means. planned_one (problem storage) asked.label (fine storage (battery_is (rows_in files battery) storage means)) (plain storage flat)))
-  task_one problem wants_metered_bill fine plain = said_one _
-  task_one problem (schedule_bill battery schedule) fine plain =
+      (λ storage. IsPlanFor (problem storage) given asked.label) (battery_known (rows_in files battery))
+      (λ storage means. plan_one (problem storage) given asked.label
+      (record { range = fine storage (battery_is (rows_in files battery) storage means); none = none storage flat }) some))
+  task_one problem wants_metered_bill fine none some = said_one _
+  task_one problem (schedule_bill battery schedule) fine none some =
       reads_one files battery longest_file LongBattery (RefusesBattery (rows_in files battery)) (MeansBattery (rows_in files battery))
       (λ storage. ReadsSchedule files schedule (problem storage) (IsBilled (problem storage) asked.label))
       (battery_known (rows_in files battery))
@@ -177,8 +247,8 @@ module _ (files : Files) (asked : Asked) where
       (schedule_known (problem storage) (rows_in files schedule) (fine storage (battery_is (rows_in files battery) storage means)).storage)
       (λ modes is. billed_one (problem storage) asked.label modes is.1.long))
 
-  request_one : HasOne (IsAnswerTo files asked)
-  request_one =
+  request_one : ((budget : ℕ) → budget_of asked.wanted ≡ Some budget → 1 ≤ budget) → HasOne (IsAnswerTo files asked)
+  request_one some =
       let records = rows_in files asked.records in
       let readings = rows_in files asked.readings in
       let rule = rule_of asked.net_billing in
@@ -190,7 +260,7 @@ module _ (files : Files) (asked : Asked) where
       (λ metered month_is. settles_one text terms metered (IsFor files asked.label (joined terms metered asked.prior_peak) asked.wanted)
       (task_one (joined terms metered asked.prior_peak) asked.wanted
       (λ storage is. joined_in_range records readings asked.label rule terms metered asked.prior_peak storage record_is month_is is)
-      (λ storage flat. record { groups = flat.groups; tiers = flat.tiers }))))
+      (λ storage flat. flat) some)))
 
 -- the answer to words that ask to see a tariff is one
 seen_one : (files : Files) (seen : Seen) → HasOne (IsShownTo files seen)
@@ -227,7 +297,7 @@ one_answer words files = by_words (request_or_none words) (show_or_none words)
     by_words : ((asked : Asked) × IsRequest words asked) ⊎ ((asked : Asked) → IsRequest words asked → ⊥)
         → ((seen : Seen) × IsShow words seen) ⊎ ((seen : Seen) → IsShow words seen → ⊥) → HasAnswer words files
     by_words (inl (asked, is)) seen =
-        let one = request_one files asked in
+        let one = request_one files asked (given_some is.budget (budget_of asked.wanted) is.budget_is) in
         record { answer = one.answer; is = request asked is one.is; only = asked_only asked is one }
     by_words (inr none) (inl (seen, is)) =
         let one = seen_one files seen in

@@ -1,6 +1,6 @@
 -- What the program answers to a list of words, given the files: a verdict, the text that it prints, and the files that it opens.
 -- The files are read one after the other, and the first that is too long or refused decides.
-use Rattle.std.specs.Prelude.{◌≡◌, ◌⊎◌, ℕ, ◌^◌, ◌<◌, ◌≤◌, ◌++◌, Bool, true, false, ℤ, pos, List, [], ◌∷◌, length, codes, Result, Ok, Err}
+use Rattle.std.specs.Prelude.{◌≡◌, ◌⊎◌, ℕ, ◌+◌, ◌-◌, ◌^◌, ◌<◌, ◌≤◌, ◌++◌, Bool, true, false, ℤ, pos, ◌≤ℤ◌, ◌<ℤ◌, Option, Some, None, List, [], ◌∷◌, length, codes, Result, Ok, Err}
 use Rattle.d_desk.specs.Scene.{Files, Opening, opening, bytes_in}
 use Rattle.d_desk.specs.declared.opened.Direction.TheVariants.{In}
 use Rattle.std.specs.Fmt.{decimal}
@@ -21,12 +21,16 @@ use Rattle.d_batt.specs.declared.fault.BatteryFault.{BatteryFault}
 use Rattle.d_batt.specs.declared.fault.BatteryFault.TheVariants as battery_fault
 use Rattle.d_bill.specs.Inputs.{Inputs}
 use Rattle.d_bill.specs.Schedules.{IsFeasible, IsFirstBreak}
-use Rattle.d_bill.specs.Bills.{IsFirstLeast, IsLeast}
+use Rattle.d_bill.specs.Bills.{bill_of, IsLeast}
 use Rattle.d_bill.specs.Join.{join_of, IsSettled}
-use Rattle.d_bill.specs.Slopes.{tiered, energy_cost}
+use Rattle.d_bill.specs.Slopes.{tiered}
 use Rattle.d_bill.specs.Totals.{tally_of, metered_tally}
-use Rattle.d_bill.specs.Law.{IsPlain}
 use Rattle.d_bill.specs.ScheduleFile.{IsScheduleFile, IsScheduleFault}
+use Rattle.d_search.specs.Budgets.{product, IsDefaultBudget}
+use Rattle.d_search.specs.Problems.{IsSearched}
+use Rattle.d_search.specs.declared.outcome.Outcome.{Outcome}
+use Rattle.d_search.specs.declared.outcome.Verdict.{Verdict as Ending}
+use Rattle.d_search.specs.declared.outcome.Verdict.TheVariants as ending
 use Rattle.d_words.specs.Words.{Asked, Wanted, IsRequest, plan_with, metered_bill as wants_metered_bill, schedule_bill}
 use Rattle.d_words.specs.Shows.{Seen, IsShow}
 use Rattle.d_run.specs.Record.{IsRecord, IsRecordFault, rows_with_label}
@@ -35,11 +39,14 @@ use Rattle.d_report.specs.Lines.{line}
 use Rattle.d_report.specs.Charges.{bill_text}
 use Rattle.d_report.specs.Plans.{plan_text}
 use Rattle.d_report.specs.Tariffs.{tariff_text}
+use Rattle.d_report.specs.declared.finding.Finding.{Finding}
+use Rattle.d_report.specs.declared.finding.Found.{Found}
+use Rattle.d_report.specs.declared.finding.Found.TheVariants as found
 use Rattle.d_run.specs.Text.{break_text, meter_fault_text, battery_fault_text, schedule_fault_text}
 use Rattle.d_run.specs.declared.verdict.Verdict.{Verdict}
 use Rattle.d_run.specs.declared.verdict.Verdict.TheVariants as verdict
 use Rattle.d_run.specs.declared.fault.Refusal.{Refusal}
-use Rattle.d_run.specs.declared.fault.Refusal.TheVariants.{Words, LongRecord, RecordShape, LongReadings, Readings, GroupsNotYet, TiersNotYet, LongBattery, Battery, LongSchedule, Schedule}
+use Rattle.d_run.specs.declared.fault.Refusal.TheVariants.{Words, LongRecord, RecordShape, LongReadings, Readings, TiersNotYet, LongBattery, Battery, Product, LongSchedule, Schedule}
 
 -- a file that is written: its name, and its bytes once it is closed
 pub record Written : Type 0 where
@@ -68,10 +75,10 @@ refusal_verdict LongRecord = verdict.Record
 refusal_verdict (RecordShape row) = verdict.Record
 refusal_verdict LongReadings = verdict.Readings
 refusal_verdict (Readings fault) = verdict.Readings
-refusal_verdict GroupsNotYet = verdict.Record
 refusal_verdict TiersNotYet = verdict.Record
 refusal_verdict LongBattery = verdict.Battery
 refusal_verdict (Battery fault) = verdict.Battery
+refusal_verdict (Product size) = verdict.Words
 refusal_verdict LongSchedule = verdict.Battery
 refusal_verdict (Schedule fault) = verdict.Battery
 
@@ -82,10 +89,10 @@ refusal_text LongRecord = line (codes "refused record 0 TooLong")
 refusal_text (RecordShape row) = line (codes "refused record 0 Shape " ++ decimal row)
 refusal_text LongReadings = line (codes "refused readings 0 TooLong")
 refusal_text (Readings fault) = line (codes "refused readings " ++ meter_fault_text fault)
-refusal_text GroupsNotYet = line (codes "refused record 23 NotYet none 2")
 refusal_text TiersNotYet = line (codes "refused record 23 NotYet none 3")
 refusal_text LongBattery = line (codes "refused battery 0 TooLong")
 refusal_text (Battery fault) = line (codes "refused battery " ++ battery_fault_text fault)
+refusal_text (Product size) = line (codes "refused words 7 Product " ++ decimal size)
 refusal_text LongSchedule = line (codes "refused schedule 0 TooLong")
 refusal_text (Schedule fault) = line (codes "refused schedule " ++ schedule_fault_text fault)
 
@@ -195,20 +202,63 @@ no_storage = record {
   modes = record { name = codes "idle"; change = pos 0; grid = pos 0; low = 0; high = 255 } ∷ [];
 }
 
--- the answer to a request for a plan: the first of the schedules whose energy costs least, whose bill is then the least too; or that no
--- schedule is feasible
-pub data IsPlanned (i : Inputs) (label : List ℕ) (answer : Answer) : Type 0 where
-  no_schedule : ((schedule : List ℕ) → IsFeasible i schedule → ⊥) → answer ≡ says verdict.NoSchedule (line (codes "no schedule"))
-      → IsPlanned i label answer
-  least : (schedule : List ℕ) → IsFirstLeast i (energy_cost i) schedule → IsLeast i schedule
-      → answer ≡ says verdict.Done (plan_text i label schedule) → IsPlanned i label answer
+-- how many levels a battery has
+abbrev pub levels_of : Storage → ℕ
+levels_of storage = storage.capacity - storage.floor + 1
 
--- a month is planned where no group of its intervals is charged for its highest demand and none of its energy periods is tiered; others are
--- refused, and this is told before a battery is looked at
+-- how many boxes the search for a plan may make: as many as the words give, or else the default for its intervals and levels
+abbrev pub IsBudgetOf : Inputs → Option ℕ → ℕ → Type 0
+IsBudgetOf i None budget = IsDefaultBudget (length i.net) (levels_of i.storage) budget
+IsBudgetOf i (Some given) budget = budget ≡ given
+
+-- the product of the sizes of a search: its budget, its intervals and its levels
+abbrev pub product_for : Inputs → ℕ → ℕ
+product_for i budget = product budget (length i.net) (levels_of i.storage)
+
+-- a plan is searched for where the product of the sizes is at most 2^24; else the words are refused, with that product
+pub data IsWithinSizes (i : Inputs) (budget : ℕ) (Next : Answer → Type 0) (answer : Answer) : Type 0 where
+  is_too_large : 2 ^ 24 < product_for i budget → answer ≡ refused (Product (product_for i budget)) → IsWithinSizes i budget Next answer
+  is_within : product_for i budget ≤ 2 ^ 24 → Next answer → IsWithinSizes i budget Next answer
+
+-- what a plan's text says of the outcome of a search: whether the bill is the least, the bound of the bills, and the number of boxes
+abbrev pub finding : Found → Outcome → Finding
+finding found o = record { found = found; lower = o.lower; boxes = length o.tree }
+
+-- the gap that a search left, where it left one: more boxes may close it, or no number of boxes does
+abbrev pub gap_of : Ending → Option Found
+gap_of ending.Least = None
+gap_of ending.GapBudget = Some found.GapBudget
+gap_of ending.GapDuality = Some found.GapDuality
+gap_of ending.Infeasible = None
+
+-- the schedule is feasible, and no feasible schedule has a bill below the bound, which is below the bill of this one
+pub record IsBetween (i : Inputs) (o : Outcome) : Type 0 where
+  pub feasible : IsFeasible i o.schedule
+  pub lower : ℤ
+  pub lower_is : o.lower ≡ Some lower
+  pub bound : (z : List ℕ) → IsFeasible i z → lower ≤ℤ bill_of i z
+  pub below : lower <ℤ bill_of i o.schedule
+
+-- the answer where a search may make so many boxes: no schedule is feasible; or the schedule that it found has the least bill of all; or
+-- that isn't known, and the bill lies above a bound of all bills
+pub data IsPlanned (i : Inputs) (budget : ℕ) (label : List ℕ) (answer : Answer) : Type 0 where
+  no_schedule : (o : Outcome) → IsSearched i budget o → o.verdict ≡ ending.Infeasible → ((z : List ℕ) → IsFeasible i z → ⊥)
+      → answer ≡ says verdict.NoSchedule (line (codes "no schedule")) → IsPlanned i budget label answer
+  least : (o : Outcome) → IsSearched i budget o → o.verdict ≡ ending.Least → IsLeast i o.schedule
+      → answer ≡ says verdict.Done (plan_text i label o.schedule (finding found.Least o)) → IsPlanned i budget label answer
+  gap : (o : Outcome) → IsSearched i budget o → (found : Found) → gap_of o.verdict ≡ Some found → IsBetween i o
+      → answer ≡ says verdict.Gap (plan_text i label o.schedule (finding found o)) → IsPlanned i budget label answer
+
+-- the answer to a request for a plan where the problem is known, and the budget that the words give
+pub record IsPlanFor (i : Inputs) (given : Option ℕ) (label : List ℕ) (answer : Answer) : Type 0 where
+  pub budget : ℕ
+  pub budget_is : IsBudgetOf i given budget
+  pub planned : IsWithinSizes i budget (IsPlanned i budget label) answer
+
+-- a month is planned where none of its energy periods is tiered; others are refused, and this is told before a battery is looked at
 pub data IsPlannable (i : Inputs) (Next : Answer → Type 0) (answer : Answer) : Type 0 where
-  has_group : (i.peaks ≡ [] → ⊥) → answer ≡ refused GroupsNotYet → IsPlannable i Next answer
-  has_tiers : i.peaks ≡ [] → (tiered i ≡ [] → ⊥) → answer ≡ refused TiersNotYet → IsPlannable i Next answer
-  is_plain : IsPlain i → Next answer → IsPlannable i Next answer
+  has_tiers : (tiered i ≡ [] → ⊥) → answer ≡ refused TiersNotYet → IsPlannable i Next answer
+  is_untiered : tiered i ≡ [] → Next answer → IsPlannable i Next answer
 
 -- the answer to a request for the bill of a schedule: the bill, or the first interval in which it breaks a rule
 pub data IsBilled (i : Inputs) (label schedule : List ℕ) (answer : Answer) : Type 0 where
@@ -221,8 +271,8 @@ IsMeteredBill i label answer = answer ≡ says verdict.Done (bill_text i label (
 
 -- the answer where the problem of the month is known but for the battery
 abbrev pub IsFor : Files → List ℕ → (Storage → Inputs) → Wanted → Answer → Type 0
-IsFor files label problem (plan_with battery) answer =
-    IsPlannable (problem no_storage) (ReadsBattery files battery (λ storage. IsPlanned (problem storage) label)) answer
+IsFor files label problem (plan_with battery given) answer =
+    IsPlannable (problem no_storage) (ReadsBattery files battery (λ storage. IsPlanFor (problem storage) given label)) answer
 IsFor files label problem wants_metered_bill answer = IsMeteredBill (problem no_storage) label answer
 IsFor files label problem (schedule_bill battery schedule) answer =
     ReadsBattery files battery (λ storage. ReadsSchedule files schedule (problem storage) (IsBilled (problem storage) label)) answer

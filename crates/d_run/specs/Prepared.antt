@@ -1,5 +1,5 @@
 -- What each part of a run prepares, by the files as they are before it.
-use Rattle.std.specs.Prelude.{ℕ, ◌≤◌, List, Result, IsErrOf}
+use Rattle.std.specs.Prelude.{ℕ, ◌≤◌, Option, List, Result, IsErrOf}
 use Rattle.d_desk.specs.Cause.{Rose}
 use Rattle.d_desk.specs.Scene.{Files, Scene}
 use Rattle.d_batt.specs.Storage.{Storage}
@@ -13,7 +13,7 @@ use Rattle.d_words.specs.Shows.{seen_of}
 use Rattle.d_words.specs.declared.show.Show.{Show}
 use Rattle.d_run.specs.RecordText.{hourly_text}
 use Rattle.d_run.specs.declared.record.Recorded.{Recorded}
-use Rattle.d_run.specs.Answer.{Answer, IsAnswerTo, IsShownTo, IsWithTerms, Settles, IsFor, IsPlannable, IsPlanned, IsBilled, no_storage, ReadsBattery, ReadsSchedule}
+use Rattle.d_run.specs.Answer.{Answer, IsAnswerTo, IsShownTo, IsWithTerms, Settles, IsFor, IsPlannable, IsPlanFor, IsBilled, no_storage, ReadsBattery, ReadsSchedule}
 use Rattle.d_run.specs.Replies.{PreparesOne, problem_of}
 use Rattle.d_run.specs.declared.fault.Fault.{Fault}
 use Rattle.d_run.specs.declared.fault.Fault.TheVariants.{Failed}
@@ -50,13 +50,13 @@ abbrev pub IsWithReadings : Request → Recorded → Meter → Files → Answer 
 IsWithReadings request recorded meter files =
     Settles (hourly_text recorded.table) (terms_of recorded.tariff) (metered_of meter) (IsWithMeter request recorded.tariff meter files)
 
--- the plan with the battery of this file
-abbrev pub Plans : List ℕ → List ℕ → (Storage → Inputs) → Files → Answer → Type 0
-Plans battery label problem files = ReadsBattery files battery (λ storage. IsPlanned (problem storage) label)
+-- the plan with the battery of this file, and the budget that the words give
+abbrev pub Plans : List ℕ → Option ℕ → List ℕ → (Storage → Inputs) → Files → Answer → Type 0
+Plans battery given label problem files = ReadsBattery files battery (λ storage. IsPlanFor (problem storage) given label)
 
--- the plan with the battery of this file, where the month is one that is planned
-abbrev pub PlansMonth : List ℕ → List ℕ → (Storage → Inputs) → Files → Answer → Type 0
-PlansMonth battery label problem files = IsPlannable (problem no_storage) (Plans battery label problem files)
+-- the same where the month is one that is planned
+abbrev pub PlansMonth : List ℕ → Option ℕ → List ℕ → (Storage → Inputs) → Files → Answer → Type 0
+PlansMonth battery given label problem files = IsPlannable (problem no_storage) (Plans battery given label problem files)
 
 -- the bill of the schedule of this file
 abbrev pub BillsSchedule : List ℕ → List ℕ → Inputs → Files → Answer → Type 0

@@ -17,6 +17,7 @@ status_of verdict.Record = status.Record
 status_of verdict.Readings = status.Readings
 status_of verdict.Battery = status.Battery
 status_of verdict.NoSchedule = status.NoSchedule
+status_of verdict.Gap = status.Gap
 
 -- the exit status, numbered in order
 abbrev pub status_number : Status → ℕ

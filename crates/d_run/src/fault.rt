@@ -2,7 +2,7 @@
 
 ghost use Rattle.std.specs.Prelude.{◌≡◌, IfOk, string_bytes};
 ghost use Rattle.d_run.specs.Answer.{refused, refusal_text, refusal_verdict};
-ghost use Rattle.d_run.specs.Replies.{EndsBy};
+ghost use Rattle.d_run.specs.Replies.{EndsBy, Shows};
 ghost use Rattle.d_run.specs.Text.{meter_fault_text, battery_fault_text, schedule_fault_text};
 
 use crate::reply::Reply;
@@ -28,14 +28,14 @@ pub enum Refusal {
     LongReadings,
     /// The readings file is no month of readings.
     Readings(MeterFault),
-    /// Some intervals of the month are charged for their highest demand, which isn't planned yet.
-    GroupsNotYet,
     /// Some energy period of the month is tiered, which isn't planned yet.
     TiersNotYet,
     /// The battery file is too long.
     LongBattery,
     /// The battery file is no battery.
     Battery(BatteryFault),
+    /// The search for a plan is too large: the product of its sizes is this, which is above 2^24.
+    Product(u64),
     /// The schedule file is too long.
     LongSchedule,
     /// The schedule file is no schedule of the problem.
@@ -53,10 +53,10 @@ impl Refusal {
             Refusal::RecordShape(row) => shape_text(alloc, row),
             Refusal::LongReadings => line_text(alloc, "refused readings 0 TooLong", ""),
             Refusal::Readings(fault) => readings_text(alloc, fault),
-            Refusal::GroupsNotYet => line_text(alloc, "refused record 23 NotYet none 2", ""),
             Refusal::TiersNotYet => line_text(alloc, "refused record 23 NotYet none 3", ""),
             Refusal::LongBattery => line_text(alloc, "refused battery 0 TooLong", ""),
             Refusal::Battery(fault) => battery_text(alloc, fault),
+            Refusal::Product(size) => product_text(alloc, size),
             Refusal::LongSchedule => line_text(alloc, "refused schedule 0 TooLong", ""),
             Refusal::Schedule(fault) => schedule_text(alloc, fault),
         }
@@ -67,11 +67,8 @@ impl Refusal {
         ensures { result ≡ refusal_verdict self }
     {
         match self {
-            Refusal::Words => Verdict::Words,
-            Refusal::LongRecord
-            | Refusal::RecordShape(_)
-            | Refusal::GroupsNotYet
-            | Refusal::TiersNotYet => Verdict::Record,
+            Refusal::Words | Refusal::Product(_) => Verdict::Words,
+            Refusal::LongRecord | Refusal::RecordShape(_) | Refusal::TiersNotYet => Verdict::Record,
             Refusal::LongReadings | Refusal::Readings(_) => Verdict::Readings,
             Refusal::LongBattery
             | Refusal::Battery(_)
@@ -80,15 +77,23 @@ impl Refusal {
         }
     }
 
+    /// The reply that says so.
+    pub fn reply(self, alloc: Global) -> Result<Reply, NoMemory>
+        ensures { IfOk result (Shows (refusal_verdict self) (refusal_text self)) }
+    {
+        let text = self.text(alloc)?;
+        Ok(Reply {
+            verdict: self.verdict(),
+            text,
+        })
+    }
+
     /// The fault that says so.
     pub fn fault(self, alloc: Global) -> Fault
         ensures { EndsBy (λ end. end ≡ refused self) result }
     {
-        match self.text(alloc) {
-            Ok(text) => Fault::Refused(Reply {
-                verdict: self.verdict(),
-                text,
-            }),
+        match self.reply(alloc) {
+            Ok(reply) => Fault::Refused(reply),
             Err(NoMemory) => Fault::Memory,
         }
     }
@@ -149,6 +154,14 @@ fn battery_fault_text(alloc: Global, fault: BatteryFault) -> Result<String, Allo
         BatteryFault::TooMany(row) => format!(in alloc; "8 TooMany {row}"),
         BatteryFault::Memory => format!(in alloc; ""),
     }
+}
+
+/// The line of words whose search is too large.
+fn product_text(alloc: Global, size: u64) -> Result<Vec<u8>, NoMemory>
+    ensures { IfOk result (λ text. text.items ≡ refusal_text (Refusal.Product size)) }
+{
+    let size = format!(in alloc; "{size}")?;
+    line_text(alloc, "refused words 7 Product ", size.as_str())
 }
 
 /// The line of a schedule file that is refused so.

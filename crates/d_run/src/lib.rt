@@ -1,12 +1,13 @@
 //! A run of the dispatcher over a desk: from the words to the printed plan, bill or tariff.
 //!
-//! It reads the files that the words name, refuses each with its cause, finds the first least schedule of the battery or bills one
-//! that it is given, and prints the answer. What the words, the files and the printed text mean stands in `specs`. Which words the
+//! It reads the files that the words name, refuses each with its cause, searches for the schedule of the battery with the least bill or
+//! bills one that it is given, and prints the answer. What the words, the files and the printed text mean stands in `specs`. Which words the
 //! program was called with and what the system's files hold, no contract here says.
 #![tactic(auto)]
 
 mod battery;
 mod bill;
+mod budget;
 mod fault;
 mod law;
 mod load;

@@ -1,7 +1,7 @@
 //! The problem of a month by a tariff and its readings, and whether such a month is planned yet.
 
-ghost use Rattle.std.specs.Prelude.{◌≡◌, IfOk, OnOk, IfErr};
-ghost use Rattle.d_bill.specs.Law.{IsPlain};
+ghost use Rattle.std.specs.Prelude.{◌≡◌, [], IfOk, OnOk, IfErr};
+ghost use Rattle.d_bill.specs.Slopes.{tiered};
 ghost use Rattle.d_tariff.specs.Shown.{terms_of};
 ghost use Rattle.d_meter.specs.Shown.{metered_of};
 ghost use Rattle.d_batt.specs.Shown.{storage_of};
@@ -32,8 +32,7 @@ pub fn join_month(
     Problem::join(alloc, tariff, meter, battery, request.prior_peak)
 }
 
-/// Tests that the month is one that is planned: no group of its intervals is charged for its highest demand, and no energy period is
-/// tiered.
+/// Tests that the month is one that is planned: none of its energy periods is tiered.
 pub fn check_plannable(
     alloc: Global,
     request: &Request<'_>,
@@ -41,23 +40,20 @@ pub fn check_plannable(
     meter: &Meter,
 ) -> Result<(), Fault>
     requires { IsSettled (terms_of tariff.now) (metered_of meter.now) }
-    ensures plain { OnOk result (IsPlain (problem_of tariff.now meter.now request.now.prior_peak no_storage)) }
+    ensures untiered { OnOk result (tiered (problem_of tariff.now meter.now request.now.prior_peak no_storage) ≡ []) }
     ensures refused { IfErr result (EndsBy (IsPlannable (problem_of tariff.now meter.now request.now.prior_peak no_storage) (λ _. ⊥))) }
 {
     let battery = no_battery(alloc)?;
     let problem = join_month(alloc, request, tariff, meter, &battery)?;
-    check_plain(alloc, &problem)
+    check_untiered(alloc, &problem)
 }
 
-/// Tests that a problem has no group that is charged and no tiered energy period.
-fn check_plain(alloc: Global, problem: &Problem) -> Result<(), Fault>
-    ensures plain { OnOk result (IsPlain problem.now) }
+/// Tests that a problem has no tiered energy period.
+fn check_untiered(alloc: Global, problem: &Problem) -> Result<(), Fault>
+    ensures untiered { OnOk result (tiered problem.now ≡ []) }
     ensures refused { IfErr result (EndsBy (IsPlannable problem.now (λ _. ⊥))) }
 {
-    if !problem.groups().is_empty() {
-        return Err(Refusal::GroupsNotYet.fault(alloc));
-    }
-    if !problem.is_plain() {
+    if !problem.is_untiered() {
         return Err(Refusal::TiersNotYet.fault(alloc));
     }
     Ok(())

@@ -1,7 +1,7 @@
 //! The plan of a month.
 
-ghost use Rattle.std.specs.Prelude.{◌≡◌, codes, IfOk};
-ghost use Rattle.d_bill.specs.Law.{IsPlain};
+ghost use Rattle.std.specs.Prelude.{◌≡◌, ◌≤◌, [], codes, IfOk};
+ghost use Rattle.d_bill.specs.Slopes.{tiered};
 ghost use Rattle.d_bill.specs.Schedules.{IsFeasible};
 ghost use Rattle.d_tariff.specs.Shown.{terms_of};
 ghost use Rattle.d_meter.specs.Shown.{metered_of};
@@ -9,42 +9,44 @@ ghost use Rattle.d_batt.specs.Shown.{storage_of};
 ghost use Rattle.d_bill.specs.Join.{IsSettled};
 ghost use Rattle.d_report.specs.Lines.{line};
 ghost use Rattle.d_report.specs.Plans as spec;
-ghost use Rattle.d_run.specs.Answer.{IsPlanned, no_storage};
+ghost use Rattle.d_run.specs.Answer.{IsPlanned, IsPlanFor, finding, no_storage};
 ghost use Rattle.d_run.specs.Replies.{IsReply, Shows, problem_of};
 ghost use Rattle.d_run.specs.Prepared.{IsCaused, Prepares, Plans, PlansMonth};
 
-use crate::fault::Fault;
+use crate::budget::{budget_of, search_size};
+use crate::fault::{Fault, Refusal};
 use crate::load::load_battery;
 use crate::month::{check_plannable, join_month};
 use crate::reply::Reply;
 use crate::verdict::Verdict;
 use d_batt::Battery;
 use d_bill::Problem;
-use d_bound::cheapest_schedule;
 use d_desk::Desk;
 use d_meter::Meter;
 use d_num::NoMemory;
-use d_report::{line_text, plan_text};
+use d_report::{Finding, Found, line_text, plan_text};
+use d_search::{Outcome, PRODUCT_LIMIT, Room, search};
 use d_tariff::Tariff;
-use d_words::Request;
+use d_words::{Budget, Request};
 use std::alloc::Global;
 
-/// Prepares the plan with the battery of this file, where the month is one that is planned.
+/// Prepares the plan with the battery of this file and the budget that the words give, where the month is one that is planned.
 pub fn answer_plan<D: Desk>(
     alloc: Global,
     desk: &mut D,
     request: &Request<'_>,
     battery: &str,
+    budget: Option<Budget>,
     tariff: &Tariff,
     meter: &Meter,
 ) -> Result<Reply, Fault>
     requires { IsSettled (terms_of tariff.now) (metered_of meter.now) }
-    ensures told { D.tells → Prepares (PlansMonth battery.now request.now.label.now (problem_of tariff.now meter.now request.now.prior_peak))
+    ensures told { D.tells → Prepares (PlansMonth battery.now budget request.now.label.now (problem_of tariff.now meter.now request.now.prior_peak))
         (D.scene desk.old) (D.scene desk.new) result }
     ensures cause { IsCaused (D.faults desk.old) (D.faults desk.new) result }
 {
     check_plannable(alloc, request, tariff, meter)?;
-    plan_with_battery(alloc, desk, request, battery, tariff, meter)
+    plan_with_battery(alloc, desk, request, battery, budget, tariff, meter)
 }
 
 /// Prepares the plan with the battery of this file.
@@ -53,64 +55,106 @@ fn plan_with_battery<D: Desk>(
     desk: &mut D,
     request: &Request<'_>,
     battery: &str,
+    budget: Option<Budget>,
     tariff: &Tariff,
     meter: &Meter,
 ) -> Result<Reply, Fault>
     requires settled { IsSettled (terms_of tariff.now) (metered_of meter.now) }
-    requires plain { IsPlain (problem_of tariff.now meter.now request.now.prior_peak no_storage) }
-    ensures told { D.tells → Prepares (Plans battery.now request.now.label.now (problem_of tariff.now meter.now request.now.prior_peak))
+    requires untiered { tiered (problem_of tariff.now meter.now request.now.prior_peak no_storage) ≡ [] }
+    ensures told { D.tells → Prepares (Plans battery.now budget request.now.label.now (problem_of tariff.now meter.now request.now.prior_peak))
         (D.scene desk.old) (D.scene desk.new) result }
     ensures cause { IsCaused (D.faults desk.old) (D.faults desk.new) result }
 {
     let battery = load_battery(alloc, desk, battery)?;
-    Ok(plan(alloc, request, tariff, meter, &battery)?)
+    Ok(plan(alloc, request, budget, tariff, meter, &battery)?)
 }
 
-/// The plan whose energy costs least, which has the least bill, or that no schedule is feasible.
+/// The plan of the month with this battery.
 fn plan(
     alloc: Global,
     request: &Request<'_>,
+    budget: Option<Budget>,
     tariff: &Tariff,
     meter: &Meter,
     battery: &Battery,
 ) -> Result<Reply, NoMemory>
     requires settled { IsSettled (terms_of tariff.now) (metered_of meter.now) }
-    requires plain { IsPlain (problem_of tariff.now meter.now request.now.prior_peak no_storage) }
+    requires untiered { tiered (problem_of tariff.now meter.now request.now.prior_peak no_storage) ≡ [] }
     ensures { IfOk result
-        (IsReply (IsPlanned (problem_of tariff.now meter.now request.now.prior_peak (storage_of battery.now)) request.now.label.now)) }
+        (IsReply (IsPlanFor (problem_of tariff.now meter.now request.now.prior_peak (storage_of battery.now)) budget request.now.label.now)) }
 {
     let problem = join_month(alloc, request, tariff, meter, battery)?;
-    plan_problem(alloc, request.label, &problem)
+    plan_problem(alloc, request.label, &problem, budget)
 }
 
-/// The plan of a problem in which no group is charged and no period is tiered.
-fn plan_problem(alloc: Global, label: &str, problem: &Problem) -> Result<Reply, NoMemory>
-    requires { IsPlain problem.now }
-    ensures { IfOk result (IsReply (IsPlanned problem.now label.now)) }
+/// The plan of a problem in which no period is tiered, with the budget that the words give, or that its search is too large.
+fn plan_problem(
+    alloc: Global,
+    label: &str,
+    problem: &Problem,
+    given: Option<Budget>,
+) -> Result<Reply, NoMemory>
+    requires { tiered problem.now ≡ [] }
+    ensures { IfOk result (IsReply (IsPlanFor problem.now given label.now)) }
 {
-    // shows the ranges of the problem
-    let _count = problem.intervals();
-    match cheapest_schedule(alloc, problem)? {
-        Some(schedule) => plan_reply(alloc, label, problem, schedule.as_slice()),
-        None => no_plan_reply(alloc),
+    let budget = budget_of(problem, given);
+    let size = search_size(problem, budget);
+    if size > PRODUCT_LIMIT {
+        Refusal::Product(size).reply(alloc)
+    } else {
+        searched_plan(alloc, label, problem, budget)
     }
 }
 
-/// The reply that shows a plan by a feasible schedule.
+/// The plan that a search finds which may make so many boxes, or that no schedule is feasible.
+fn searched_plan(
+    alloc: Global,
+    label: &str,
+    problem: &Problem,
+    budget: u32,
+) -> Result<Reply, NoMemory>
+    requires untiered { tiered problem.now ≡ [] }
+    requires some { 1 ≤ budget }
+    requires few { budget ≤ 65535 }
+    ensures { IfOk result (IsReply (IsPlanned problem.now budget label.now)) }
+{
+    // shows the ranges of the problem
+    let _count = problem.intervals();
+    let room = Room::make(alloc, problem, budget)?;
+    let outcome = search(problem, room);
+    match outcome.verdict {
+        d_search::Verdict::Least => {
+            plan_reply(alloc, label, problem, &outcome, Verdict::Done, Found::Least)
+        }
+        d_search::Verdict::GapBudget => {
+            plan_reply(alloc, label, problem, &outcome, Verdict::Gap, Found::GapBudget)
+        }
+        d_search::Verdict::GapDuality => {
+            plan_reply(alloc, label, problem, &outcome, Verdict::Gap, Found::GapDuality)
+        }
+        d_search::Verdict::Infeasible => no_plan_reply(alloc),
+    }
+}
+
+/// The reply that shows the feasible schedule of an outcome, with what is known of its bill.
 fn plan_reply(
     alloc: Global,
     label: &str,
     problem: &Problem,
-    schedule: &[u8],
+    outcome: &Outcome,
+    verdict: Verdict,
+    found: Found,
 ) -> Result<Reply, NoMemory>
-    requires { IsFeasible problem.now schedule.now }
-    ensures { IfOk result (Shows Verdict.Done (spec.plan_text problem.now label.now schedule.now)) }
+    requires { IsFeasible problem.now outcome.now.schedule }
+    ensures { IfOk result (Shows verdict (spec.plan_text problem.now label.now outcome.now.schedule (finding found outcome.now))) }
 {
-    let text = plan_text(alloc, label, problem, schedule)?;
-    Ok(Reply {
-        verdict: Verdict::Done,
-        text,
-    })
+    let finding = Finding {
+        found,
+        lower: outcome.lower,
+        boxes: outcome.tree.count(),
+    };
+    let text = plan_text(alloc, label, problem, outcome.schedule.list(), &finding)?;
+    Ok(Reply { verdict, text })
 }
 
 /// The reply that says that no schedule is feasible.

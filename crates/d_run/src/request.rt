@@ -89,7 +89,9 @@ fn answer_task<D: Desk>(
     ensures cause { IsCaused (D.faults desk.old) (D.faults desk.new) result }
 {
     match request.task {
-        Task::Plan { battery } => answer_plan(alloc, desk, request, battery, tariff, meter),
+        Task::Plan { battery, budget } => {
+            answer_plan(alloc, desk, request, battery, budget, tariff, meter)
+        }
         Task::MeteredBill => Ok(metered_bill(alloc, request, tariff, meter)?),
         Task::ScheduleBill { battery, schedule } => {
             answer_bill(alloc, desk, request, battery, schedule, tariff, meter)

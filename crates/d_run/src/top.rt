@@ -42,6 +42,7 @@ fn status_of(verdict: Verdict) -> Status
         Verdict::Readings => Status::Readings,
         Verdict::Battery => Status::Battery,
         Verdict::NoSchedule => Status::NoSchedule,
+        Verdict::Gap => Status::Gap,
     }
 }
 

@@ -18,6 +18,8 @@ pub enum Verdict {
     Battery,
     /// No schedule is feasible.
     NoSchedule,
+    /// A plan is printed whose bill may not be the least.
+    Gap,
 }
 
 /// The program's exit status, numbered from 0.

@@ -7,6 +7,7 @@ mod HeldFacts
 mod CountFacts
 mod StoodFacts
 mod SameFacts
+mod RuleFacts
 pub mod PromiseFacts
 pub mod BudgetFacts
 mod ThereFacts

@@ -5,4 +5,7 @@ pub mod Outcomes
 pub mod Promises
 pub mod Laws
 pub mod Problems
+pub mod Budgets
+pub mod Rooms
+pub mod Growths
 pub mod ProblemLaws

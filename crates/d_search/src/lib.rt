@@ -1,13 +1,23 @@
 //! The tree of boxes that a search grows, what it answers, and what holds of every answer.
 //!
 //! All definitions are over an abstract record of rules, which says what the node, the schedule, the split and the halves of a box are; this
-//! crate knows no tariff, battery or file. It doesn't search yet.
+//! crate knows no tariff, battery or file.
 #![tactic(auto)]
 
+mod boxes;
+mod budget;
+mod ends;
+mod growth;
 mod law;
+mod leaves;
 mod outcome;
+mod room;
+mod searches;
 mod tree;
 
+pub use budget::{PRODUCT_LIMIT, default_budget, product_of};
 pub use law::{one_outcome, outcomes_are_there};
 pub use outcome::{Modes, Outcome, Verdict};
+pub use room::Room;
+pub use searches::search;
 pub use tree::{Tree, TreeNode};

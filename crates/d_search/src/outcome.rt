@@ -34,6 +34,13 @@ impl Model for Modes {
 }
 
 impl Modes {
+    /// These mode numbers.
+    pub(crate) fn of(numbers: Vec<u8>) -> Modes
+        ensures { result ≡ numbers.items }
+    {
+        Modes { numbers }
+    }
+
     /// The mode number of each interval.
     pub fn list(&self) -> &[u8]
         ensures { result.now ≡ self.now }

@@ -40,6 +40,14 @@ impl Model for Tree {
 }
 
 impl Tree {
+    /// These nodes.
+    pub(crate) fn of(nodes: Vec<TreeNode>) -> Tree
+        requires { length nodes.items < 2 ^ 32 }
+        ensures { result ≡ nodes.items }
+    {
+        Tree { nodes }
+    }
+
     /// How many nodes there are.
     pub fn count(&self) -> u32
         ensures { result ≡ length self.now }

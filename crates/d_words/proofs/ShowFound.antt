@@ -55,6 +55,6 @@ show_alone words seen asked show is = by_task asked.wanted (sym (ap first show.w
     first words = slice_index_or words 0 []
 
     by_task : (wanted : Wanted) → codes "show" ≡ command_of wanted → ⊥
-    by_task (plan_with battery) same = absurd (omega (arith, ap (λ (w : List ℕ). slice_index w 0) same))
+    by_task (plan_with battery budget) same = absurd (omega (arith, ap (λ (w : List ℕ). slice_index w 0) same))
     by_task metered_bill same = absurd (omega (arith, ap (λ (w : List ℕ). slice_index w 0) same))
     by_task (schedule_bill battery schedule) same = absurd (omega (arith, ap (λ (w : List ℕ). slice_index w 0) same))

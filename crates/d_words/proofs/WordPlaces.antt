@@ -1,10 +1,10 @@
 -- Words by their places.
 use Rattle.std.proofs.Common.{◌≡◌, ℕ, zero, suc, ◌+◌, ◌-◌, ◌≤◌, Bool, true, false, ℤ, List, [], ◌∷◌, ◌++◌, length, map, take, drop, slice_index, slice_index_or, bytes_eq, codes, arith, refl, sym, ap, subst, ◌∙◌, Option, Some, None}
 use Rattle.std.proofs.Math.Seq.{take-append_seam}
-use Rattle.std.proofs.lemmas.List.{get_or-append-add, length-append, length-map, take-append-drop, take_rest, take-map, drop-map}
+use Rattle.std.proofs.lemmas.List.{append-nil, get_or-append-add, length-append, length-map, take-append-drop, take_rest, take-map, drop-map}
 use Rattle.std.proofs.lemmas.Slice.Eq.{bytes_eq-Decides}
-use Rattle.d_words.specs.Words.{Asked, Wanted, plan_with, metered_bill, schedule_bill, billing_words, peak_words, GivesPeak, IsPeak}
-use Rattle.d_words.specs.Places.{BeginsWithRule, EndsInSchedule, IsPriorPeak, IsBilling, IsJob, IsNamed, FindsPeak, FindsJob}
+use Rattle.d_words.specs.Words.{Asked, Wanted, plan_with, metered_bill, schedule_bill, billing_words, peak_words, budget_words, GivesPeak, GivesBudget, IsPeak, IsBudget}
+use Rattle.d_words.specs.Places.{BeginsWithRule, EndsInSchedule, EndsInBudget, IsPriorPeak, IsBilling, IsPlanEnd, IsJob, IsNamed, FindsPeak, FindsJob}
 use Rattle.d_words.specs.declared.job.Job.{Job}
 
 -- what is behind the first words, and what is in front of the last
@@ -71,13 +71,122 @@ no_billing_unruled words other none true peak is =
     by_text None = omega arith
     by_text (Some t) = omega arith
 
--- a plan's words of billing are those behind its battery
-pub no_plan : (words rest : List (List ℕ)) → rest ≡ drop 2 words → ((net_billing : Bool) (peak : ℤ) → IsBilling rest net_billing peak → ⊥)
+-- what a plan's words say is said behind its battery
+pub no_plan : (words rest : List (List ℕ)) → rest ≡ drop 2 words
+    → ((budget : Option ℕ) (net_billing : Bool) (peak : ℤ) → IsPlanEnd rest budget net_billing peak → ⊥)
     → (wanted : Wanted) (net_billing : Bool) (peak : ℤ) → IsJob (codes "plan") words wanted net_billing peak → ⊥
-no_plan words rest behind none (plan_with battery) net_billing peak is =
-    none net_billing peak (record { text = is.text; words_are = behind ∙ ap (λ (ws : List (List ℕ)). drop 2 ws) is.words_are; peak_is = is.peak_is })
+no_plan words rest behind none (plan_with battery budget) net_billing peak is =
+    none budget net_billing peak (record {
+      text = is.text;
+      limit = is.limit;
+      words_are = behind ∙ ap (λ (ws : List (List ℕ)). drop 2 ws) is.words_are;
+      peak_is = is.peak_is;
+      budget_is = is.budget_is;
+    })
 no_plan words rest behind none metered_bill net_billing peak is = absurd (omega (arith, ap (λ (w : List ℕ). slice_index w 0) is.command_is))
 no_plan words rest behind none (schedule_bill battery schedule) net_billing peak is = absurd (omega (arith, ap (λ (w : List ℕ). slice_index w 0) is.command_is))
+
+-- the two words of a budget end a list
+budget_ends : (front : List (List ℕ)) (text : List ℕ) → EndsInBudget (front ++ budget_words (Some text))
+budget_ends front text =
+    let last = budget_words (Some text) in
+    let long : length (front ++ last) ≡ length front + 2 = length-append front last in
+    let first : length (front ++ last) - 2 ≡ length front + 0 = omega (arith, long) in
+    record { long = omega (arith, long); option = ap (λ (n : ℕ). slice_index_or (front ++ last) n []) first ∙ get_or-append-add front last 0 [] }
+
+budget_left : (front : List (List ℕ)) (text : List ℕ) → take (length (front ++ budget_words (Some text)) - 2) (front ++ budget_words (Some text)) ≡ front
+budget_left front text =
+    let last = budget_words (Some text) in
+    let long : length (front ++ last) ≡ length front + 2 = length-append front last in
+    let first : length (front ++ last) - 2 ≡ length front = omega (arith, long) in
+    ap (λ (n : ℕ). take n (front ++ last)) first ∙ take-append_seam front last
+
+budget_last : (front : List (List ℕ)) (text : List ℕ)
+    → slice_index_or (front ++ budget_words (Some text)) (length (front ++ budget_words (Some text)) - 2 + 1) [] ≡ text
+budget_last front text =
+    let last = budget_words (Some text) in
+    let long : length (front ++ last) ≡ length front + 2 = length-append front last in
+    let second : length (front ++ last) - 2 + 1 ≡ length front + 1 = omega (arith, long) in
+    ap (λ (n : ℕ). slice_index_or (front ++ last) n []) second ∙ get_or-append-add front last 1 []
+
+-- words of billing alone don't end in a budget
+billing_unlimited : (net_billing : Bool) (text : Option (List ℕ)) → EndsInBudget (billing_words net_billing text ++ []) → ⊥
+billing_unlimited false None ends = absurd (omega (arith, ends.long))
+billing_unlimited false (Some t) ends = absurd (omega (arith, ap length ends.option))
+billing_unlimited true None ends = absurd (omega (arith, ap length ends.option))
+billing_unlimited true (Some t) ends = absurd (omega (arith, ap length ends.option))
+
+-- of the words behind a battery that end in a budget, those of billing are in front of the last two
+pub no_limited : (words front : List (List ℕ)) → front ≡ take (length words - 2) words → EndsInBudget words
+    → ((net_billing : Bool) (peak : ℤ) → IsBilling front net_billing peak → ⊥)
+    → (budget : Option ℕ) (net_billing : Bool) (peak : ℤ) → IsPlanEnd words budget net_billing peak → ⊥
+no_limited words front left ends none budget net_billing peak is = by_limit is.limit is.words_are
+  where
+    by_limit : (limit : Option (List ℕ)) → words ≡ billing_words net_billing is.text ++ budget_words limit → ⊥
+    by_limit None same = billing_unlimited net_billing is.text (subst EndsInBudget same ends)
+    by_limit (Some t) same = none net_billing peak (record {
+      text = is.text;
+      words_are = left ∙ ap (λ (ws : List (List ℕ)). take (length ws - 2) ws) same ∙ budget_left (billing_words net_billing is.text) t;
+      peak_is = is.peak_is;
+    })
+
+-- and the last of them is the budget
+pub no_budget : (words : List (List ℕ)) (text : List ℕ) → text ≡ slice_index_or words (length words - 2 + 1) [] → EndsInBudget words
+    → ((budget : ℕ) → IsBudget text budget → ⊥)
+    → (budget : Option ℕ) (net_billing : Bool) (peak : ℤ) → IsPlanEnd words budget net_billing peak → ⊥
+no_budget words text at ends none budget net_billing peak is = by_limit is.limit budget is.words_are is.budget_is
+  where
+    by_limit : (limit : Option (List ℕ)) (boxes : Option ℕ) → words ≡ billing_words net_billing is.text ++ budget_words limit → GivesBudget limit boxes → ⊥
+    by_limit None boxes same gives = billing_unlimited net_billing is.text (subst EndsInBudget same ends)
+    by_limit (Some t) None same gives = gives
+    by_limit (Some t) (Some boxes) same gives =
+        let given : t ≡ text = sym (ap (λ (ws : List (List ℕ)). slice_index_or ws (length ws - 2 + 1) []) same ∙ budget_last (billing_words net_billing is.text) t) ∙ sym at in
+        none boxes (subst (λ (w : List ℕ). IsBudget w boxes) given gives)
+
+-- words that end in a budget are their front and these two
+budget_are : (words : List (List ℕ)) (text : List ℕ) → EndsInBudget words → text ≡ slice_index_or words (length words - 2 + 1) []
+    → words ≡ take (length words - 2) words ++ budget_words (Some text)
+budget_are words text ends at = at_place (length words - 2) (omega (arith, ends.long)) ends.option at
+  where
+    at_place : (n : ℕ) → length words ≡ suc (suc n) → slice_index_or words n [] ≡ codes "--budget" → text ≡ slice_index_or words (n + 1) []
+        → words ≡ take n words ++ budget_words (Some text)
+    at_place n long first second =
+        let one : n + 1 ≡ suc n = omega arith in
+        let i0 = items n words (omega (arith, long)) in
+        let i1 = items (suc n) words (omega (arith, long)) in
+        let none = no_items (suc (suc n)) words long in
+        let last : drop n words ≡ budget_words (Some text) = cc in
+        sym (take-append-drop n words) ∙ ap (λ (ws : List (List ℕ)). take n words ++ ws) last
+
+-- so they say it
+pub limited : (words front : List (List ℕ)) (text : List ℕ) (budget : ℕ) (net_billing : Bool) (peak : ℤ) → front ≡ take (length words - 2) words
+    → EndsInBudget words → text ≡ slice_index_or words (length words - 2 + 1) [] → IsBilling front net_billing peak → IsBudget text budget
+    → IsPlanEnd words (Some budget) net_billing peak
+limited words front text budget net_billing peak left ends at is gives = record {
+  text = is.text;
+  limit = Some text;
+  words_are = budget_are words text ends at ∙ ap (λ (ws : List (List ℕ)). ws ++ budget_words (Some text)) (sym left ∙ is.words_are);
+  peak_is = is.peak_is;
+  budget_is = gives;
+}
+
+-- those that don't end in a budget are those of billing
+pub no_unlimited : (words : List (List ℕ)) → (EndsInBudget words → ⊥) → ((net_billing : Bool) (peak : ℤ) → IsBilling words net_billing peak → ⊥)
+    → (budget : Option ℕ) (net_billing : Bool) (peak : ℤ) → IsPlanEnd words budget net_billing peak → ⊥
+no_unlimited words other none budget net_billing peak is = by_limit is.limit is.words_are
+  where
+    by_limit : (limit : Option (List ℕ)) → words ≡ billing_words net_billing is.text ++ budget_words limit → ⊥
+    by_limit None same = none net_billing peak (record { text = is.text; words_are = same ∙ append-nil (billing_words net_billing is.text); peak_is = is.peak_is })
+    by_limit (Some t) same = other (subst EndsInBudget (sym same) (budget_ends (billing_words net_billing is.text) t))
+
+pub unlimited : (words : List (List ℕ)) (net_billing : Bool) (peak : ℤ) → IsBilling words net_billing peak → IsPlanEnd words None net_billing peak
+unlimited words net_billing peak is = record {
+  text = is.text;
+  limit = None;
+  words_are = is.words_are ∙ sym (append-nil (billing_words net_billing is.text));
+  peak_is = is.peak_is;
+  budget_is = tt;
+}
 
 -- the words of a schedule's files behind those of billing
 two_files : List ℕ → List ℕ → List (List ℕ)
@@ -115,7 +224,7 @@ billing_alone true (Some t) ends = absurd (omega (arith, ap length ends.battery)
 pub no_metered : (words : List (List ℕ)) → (EndsInSchedule words → ⊥) → ((net_billing : Bool) (peak : ℤ) → IsBilling words net_billing peak → ⊥)
     → (wanted : Wanted) (net_billing : Bool) (peak : ℤ) → IsJob (codes "bill") words wanted net_billing peak → ⊥
 unfolding two_files
-no_metered words other none (plan_with battery) net_billing peak is = absurd (omega (arith, ap (λ (w : List ℕ). slice_index w 0) is.command_is))
+no_metered words other none (plan_with battery budget) net_billing peak is = absurd (omega (arith, ap (λ (w : List ℕ). slice_index w 0) is.command_is))
 no_metered words other none metered_bill net_billing peak is = none net_billing peak (record { text = is.text; words_are = is.words_are; peak_is = is.peak_is })
 no_metered words other none (schedule_bill battery schedule) net_billing peak is =
     other (subst EndsInSchedule (sym is.words_are) (files_behind (billing_words net_billing is.text) battery schedule))
@@ -125,7 +234,7 @@ pub no_schedule : (words front : List (List ℕ)) → front ≡ take (length wor
     → ((net_billing : Bool) (peak : ℤ) → IsBilling front net_billing peak → ⊥)
     → (wanted : Wanted) (net_billing : Bool) (peak : ℤ) → IsJob (codes "bill") words wanted net_billing peak → ⊥
 unfolding two_files
-no_schedule words front left ends none (plan_with battery) net_billing peak is = absurd (omega (arith, ap (λ (w : List ℕ). slice_index w 0) is.command_is))
+no_schedule words front left ends none (plan_with battery budget) net_billing peak is = absurd (omega (arith, ap (λ (w : List ℕ). slice_index w 0) is.command_is))
 no_schedule words front left ends none metered_bill net_billing peak is = billing_alone net_billing is.text (subst EndsInSchedule is.words_are ends)
 no_schedule words front left ends none (schedule_bill battery schedule) net_billing peak is =
     none net_billing peak (record {
@@ -167,10 +276,12 @@ pub schedule_job : (words front : List (List ℕ)) (battery schedule : List ℕ)
 unfolding two_files
 schedule_job words front battery schedule net_billing peak left ends at_battery at_schedule is = record {
   text = is.text;
+  limit = None;
   command_is = refl;
   words_are = files_are words battery schedule ends at_battery at_schedule
       ∙ ap (λ (ws : List (List ℕ)). ws ++ two_files battery schedule) (sym left ∙ is.words_are);
   peak_is = is.peak_is;
+  budget_is = tt;
 }
 
 -- a command that is this name is told by it
@@ -184,7 +295,9 @@ pub no_named : (words rest : List (List ℕ)) (command : List ℕ) → command �
     → ((wanted : Wanted) (net_billing : Bool) (peak : ℤ) → IsJob command rest wanted net_billing peak → ⊥) → (asked : Asked) → IsNamed words asked → ⊥
 no_named words rest command at behind none asked is = none asked.wanted asked.net_billing asked.prior_peak (record {
   text = is.text;
+  limit = is.limit;
   command_is = at ∙ ap (λ (ws : List (List ℕ)). slice_index_or ws 0 []) is.words_are;
   words_are = behind ∙ ap (λ (ws : List (List ℕ)). drop 7 ws) is.words_are;
   peak_is = is.peak_is;
+  budget_is = is.budget_is;
 })

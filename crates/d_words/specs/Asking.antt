@@ -7,7 +7,7 @@ use Rattle.d_words.specs.declared.request.Task.TheVariants.{Plan, MeteredBill, S
 
 -- what a task wants, with the bytes of its files' names
 abbrev pub wanted_of : Task → Wanted
-wanted_of (Plan battery) = plan_with battery.now
+wanted_of (Plan battery budget) = plan_with battery.now budget
 wanted_of MeteredBill = metered_bill
 wanted_of (ScheduleBill battery schedule) = schedule_bill battery.now schedule.now
 

@@ -5,6 +5,7 @@ ghost use Rattle.d_words.specs.Places.{EndsInSchedule, FindsJob};
 
 use crate::billing::{Billing, read_billing};
 use crate::places::{is_at, word_at};
+use crate::plan_end::read_plan_end;
 use crate::request::Task;
 
 /// What is wanted, and how the month is billed.
@@ -29,18 +30,21 @@ pub(crate) fn read_job<'a>(command: &str, words: &'a [String]) -> Option<Job<'a>
     }
 }
 
-/// What these words of a plan want: its battery, then how the month is billed.
+/// What these words of a plan want: its battery, then how the month is billed, then its budget or none.
 fn read_plan(words: &[String]) -> Option<Job<'_>>
     ensures { FindsJob (codes "plan") (map string_bytes words.now) result }
 {
     if words.len() < 2 || !is_at(words, 0, "--battery") {
         return None;
     }
-    let billing = read_billing(&words[2..])?;
+    let ending = read_plan_end(&words[2..])?;
     let battery = word_at(words, 1);
     Some(Job {
-        task: Task::Plan { battery },
-        billing,
+        task: Task::Plan {
+            battery,
+            budget: ending.budget,
+        },
+        billing: ending.billing,
     })
 }
 

@@ -1,5 +1,6 @@
 //! What the words of a request name.
 
+use crate::budget::Budget;
 use d_num::Watt;
 
 /// What the words of a request name.
@@ -26,6 +27,8 @@ pub enum Task<'a> {
     Plan {
         /// The name of the battery file.
         battery: &'a str,
+        /// The most boxes that the search for it may make; None where the words give no budget.
+        budget: Option<Budget>,
     },
     /// The bill of the readings alone.
     MeteredBill,

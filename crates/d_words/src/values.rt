@@ -22,7 +22,7 @@ fn has_names(task: &Task<'_>) -> bool
     ensures { IsTrue result ↔ HasNames (wanted_of task.now) }
 {
     match *task {
-        Task::Plan { battery } => is_value(battery),
+        Task::Plan { battery, .. } => is_value(battery),
         Task::MeteredBill => true,
         Task::ScheduleBill { battery, schedule } => is_value(battery) && is_value(schedule),
     }

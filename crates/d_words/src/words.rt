@@ -10,11 +10,12 @@ use crate::places::{is_at, word_at};
 use crate::request::Request;
 use crate::values::has_values;
 
-/// The request of the words `plan --records A --label L --readings R --battery B`, with or without `--rule net-billing` and then
-/// `--prior-peak N` behind them, or of `bill --records A --label L --readings R`, with or without these two, and then both or neither
-/// of `--battery B --schedule S`. None exactly where the words are others: in another order, with a value that is empty or begins with
-/// a minus, a label that isn't 1 to 64 bytes of printable ASCII without spaces, or a prior peak that isn't 1 to 14 digits or is above
-/// 10^13 W. The words and their order are our own.
+/// The request of the words `plan --records A --label L --readings R --battery B`, with or without `--rule net-billing`, then
+/// `--prior-peak N` and then `--budget K` behind them, or of `bill --records A --label L --readings R`, with or without the first two of
+/// these, and then both or neither of `--battery B --schedule S`. None exactly where the words are others: in another order, with a
+/// value that is empty or begins with a minus, a label that isn't 1 to 64 bytes of printable ASCII without spaces, a prior peak that
+/// isn't 1 to 14 digits or is above 10^13 W, or a budget that isn't 1 to 14 digits or isn't from 1 to 65535. The words and their order
+/// are our own.
 pub fn read_words(words: &[String]) -> Option<Request<'_>>
     ensures { FindsRequest (IsRequest (map string_bytes words.now)) result }
 {

@@ -11,7 +11,10 @@ fn shown(alloc: Global, request: &Request<'_>) -> Result<String, Fail> {
     let peak = request.prior_peak.value();
     let front = format!(in alloc; "{records} {label} {readings} {rule} {peak}")?;
     let task = match request.task {
-        Task::Plan { battery } => format!(in alloc; " plan {battery}")?,
+        Task::Plan { battery, budget } => {
+            let budget = budget.map_or(0, |budget| budget.boxes());
+            format!(in alloc; " plan {battery} {budget}")?
+        }
         Task::MeteredBill => String::from_str(alloc, "")?,
         Task::ScheduleBill { battery, schedule } => format!(in alloc; " {battery} {schedule}")?,
     };
@@ -36,14 +39,30 @@ fn asked(alloc: Global, line: &str) -> Result<String, Fail> {
 }
 
 /// Both commands with each of their options, and words that are no request. A case is what is shown, an equals sign, the command, and
-/// the words behind the readings file.
+/// the words behind the readings file. A plan without a budget shows 0 for it.
 #[test]
 fn reads_each_form_of_words(rt: HostRuntime) -> Result<(), Fail> {
     let alloc = rt.alloc();
-    let cases = "a l r own 0 plan b=plan --battery b\
-        |a l r net 0 plan b=plan --battery b --rule net-billing\
-        |a l r own 10000000000000 plan b=plan --battery b --prior-peak 10000000000000\
-        |a l r net 7 plan b=plan --battery b --rule net-billing --prior-peak 007\
+    let cases = "a l r own 0 plan b 0=plan --battery b\
+        |a l r net 0 plan b 0=plan --battery b --rule net-billing\
+        |a l r own 10000000000000 plan b 0=plan --battery b --prior-peak 10000000000000\
+        |a l r net 7 plan b 0=plan --battery b --rule net-billing --prior-peak 007\
+        |a l r own 0 plan b 1=plan --battery b --budget 1\
+        |a l r own 0 plan b 65535=plan --battery b --budget 65535\
+        |a l r net 0 plan b 7=plan --battery b --rule net-billing --budget 007\
+        |a l r own 5 plan b 255=plan --battery b --prior-peak 5 --budget 255\
+        |a l r net 5 plan b 9=plan --battery b --rule net-billing --prior-peak 5 --budget 00000000000009\
+        |refused=plan --battery b --budget 0\
+        |refused=plan --battery b --budget 65536\
+        |refused=plan --battery b --budget 000000000000001\
+        |refused=plan --battery b --budget\
+        |refused=plan --battery b --budget +1\
+        |refused=plan --battery b --budget -1\
+        |refused=plan --battery b --budget 1 --budget 1\
+        |refused=plan --battery b --budget 1 --prior-peak 1\
+        |refused=plan --budget 1 --battery b\
+        |refused=bill --budget 1\
+        |refused=bill --battery b --schedule s --budget 1\
         |refused=plan --rule net-billing --battery b\
         |refused=plan --battery b --prior-peak 1 --rule net-billing\
         |refused=plan --battery b --schedule s\
