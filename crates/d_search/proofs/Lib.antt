@@ -7,6 +7,9 @@ mod HeldFacts
 mod CountFacts
 mod StoodFacts
 mod SameFacts
+mod FrontFacts
+mod KeptFacts
+mod GrowthFacts
 mod RuleFacts
 pub mod PromiseFacts
 pub mod BudgetFacts
