@@ -10,6 +10,7 @@ mod SameFacts
 mod FrontFacts
 mod KeptFacts
 mod GrowthFacts
+mod StepFacts
 mod RuleFacts
 pub mod PromiseFacts
 pub mod BudgetFacts
