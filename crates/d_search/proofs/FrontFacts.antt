@@ -1,5 +1,5 @@
 -- The keys that wait in the front are those of the open leaves.
-use Rattle.std.proofs.Common.{◌≡◌, ◌⊎◌, inl, inr, ℕ, zero, suc, ◌+◌, ◌<◌, ◌≤◌, ◌&&◌, ℤ, Bool, true, false, cond, eqb, List, [], ◌∷◌, ◌++◌, Option, Some, None, length, slice_get, slice_set, option_and_then, sum_by, is_none, is_some, not, length-append, Decides, arith, sym, refl, ap, subst, ◌∙◌}
+use Rattle.std.proofs.Common.{◌≡◌, ◌⊎◌, inl, inr, ℕ, zero, suc, ◌+◌, ◌≤◌, ◌&&◌, ℤ, Bool, true, false, cond, eqb, List, [], ◌∷◌, ◌++◌, Option, Some, None, length, slice_get, slice_set, option_and_then, sum_by, is_none, is_some, not, length-append, Decides, arith, sym, refl, ap, subst, ◌∙◌}
 use Rattle.std.specs.List.{All}
 use Rattle.std.specs.List.Sorted.{IsPermutation}
 use Rattle.std.specs.Ordering.{int_eq}
@@ -78,7 +78,7 @@ keys_same : (a b : Key) → AreSame a b → a ≡ b
 keys_same a b same =
     let point : a.point ≡ b.point = same_point a.point b.point same.1.0 in
     let joined : made a.bound a.point a.node ≡ made b.bound b.point b.node =
-        ap (λ (x : ℤ). made x a.point a.node) same.0 ∙ (ap (λ (p : Bool). made b.bound p a.node) point ∙ ap (made b.bound b.point) same.1.1) in
+    ap (λ (x : ℤ). made x a.point a.node) same.0 ∙ (ap (λ (p : Bool). made b.bound p a.node) point ∙ ap (made b.bound b.point) same.1.1) in
     joined
 
 -- how often a key is there
@@ -217,7 +217,7 @@ open_set r f first (n ∷ nodes) zero x y number at is = omega (
   sum_by-append f (one_key (key_of r first y)) (open_keys r (first + 1) nodes),
   let same : first ≡ number = omega arith in ap (λ (k : ℕ). sum_by f (one_key (key_of r k y))) same,
   let same : first ≡ number = omega arith in
-  ap (λ (k : ℕ). sum_by f (one_key (key_of r k n))) same ∙ ap (λ (m : TreeNode). sum_by f (one_key (key_of r number m))) (same_Some n x at),
+      ap (λ (k : ℕ). sum_by f (one_key (key_of r k n))) same ∙ ap (λ (m : TreeNode). sum_by f (one_key (key_of r number m))) (same_Some n x at),
 )
 open_set r f first (n ∷ nodes) (suc place) x y number at is = omega (
   arith,

@@ -1,8 +1,8 @@
 -- What a search holds stays so while nodes are made and marked.
-use Rattle.std.proofs.Common.{◌≡◌, ℕ, ◌+◌, ◌<◌, ◌≤◌, ℤ, List, [], ◌∷◌, ◌++◌, Option, Some, None, IfSome, length, slice_get, slice_set, option_and_then, length-append, length-set, arith, sym, refl, ap, subst, ◌∙◌}
+use Rattle.std.proofs.Common.{◌≡◌, ℕ, ◌<◌, ◌≤◌, ℤ, List, [], ◌∷◌, ◌++◌, Option, Some, None, IfSome, length, slice_get, slice_set, option_and_then, length-append, length-set, arith, sym, refl, ap, subst, ◌∙◌}
 use Rattle.std.specs.List.Sorted.{IsPermutation}
 use Rattle.std.specs.Vec.{vec_capacity}
-use Rattle.std.proofs.lemmas.Option.{slice_get_past, same_Some, none-some}
+use Rattle.std.proofs.lemmas.Option.{slice_get_past, none-some}
 use Rattle.d_box.specs.declared.space.Split.{Split}
 use Rattle.d_bill.specs.Inputs.{Inputs}
 use Rattle.d_bound.specs.Roots.{IsProblemBox}

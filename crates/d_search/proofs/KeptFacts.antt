@@ -1,8 +1,8 @@
 -- What is kept while nodes are made and marked: the least bill with its schedule, and that each node is of a problem's box.
-use Rattle.std.proofs.Common.{◌≡◌, ◌≢◌, ◌⊎◌, inl, inr, ℕ, ◌+◌, ◌<◌, ◌≤◌, ℤ, List, [], ◌∷◌, ◌++◌, Option, Some, None, IfSome, length, slice_get, slice_set, option_and_then, length-append, length-set, arith, sym, refl, ap, subst, ◌∙◌}
+use Rattle.std.proofs.Common.{◌≡◌, inl, inr, ℕ, ◌<◌, ℤ, List, [], ◌∷◌, ◌++◌, Option, Some, None, IfSome, length, slice_get, slice_set, option_and_then, length-append, arith, sym, refl, ap, subst, ◌∙◌}
 use Rattle.std.proofs.lemmas.Bool.{cases_lt, cases_eq}
 use Rattle.std.proofs.lemmas.Int.{ints}
-use Rattle.std.proofs.lemmas.Option.{slice_get_within, slice_get_past, same_Some, none-some}
+use Rattle.std.proofs.lemmas.Option.{slice_get_within, slice_get_past, same_Some}
 use Rattle.d_box.specs.declared.space.Split.{Split}
 use Rattle.d_bound.specs.BoxLaws.{IsAtMost}
 use Rattle.d_bound.specs.Roots.{IsProblemBox}
@@ -10,7 +10,7 @@ use Rattle.d_search.specs.declared.tree.TreeNode.{TreeNode}
 use Rattle.d_search.specs.Rules.{Rules, IsBelow}
 use Rattle.d_search.specs.Trees.{bill_in, bill_at, split_node}
 use Rattle.d_search.specs.Outcomes.{IsEarliestLeast, IsKept}
-use Rattle.d_search.specs.Growths.{IsKeptSoFar, AreBoxed, HasKept, IsExchanged, IsUnchanged}
+use Rattle.d_search.specs.Growths.{IsKeptSoFar, AreBoxed, HasKept}
 use Rattle.d_search.proofs.OrderFacts.{at_most_refl, below_at_most}
 use Rattle.d_search.proofs.PlaceFacts.{get_set_same, get_set_other, get_front, get_behind}
 
@@ -31,7 +31,7 @@ bill_added : (nodes : List TreeNode) (n : TreeNode) → bill_at (nodes ++ n ∷ 
 bill_added nodes n = ap (option_and_then bill_in) (get_behind nodes (n ∷ []) (length nodes) 0 (omega arith))
 
 -- a bill below the least so far is below all
-below_so_far : (r : Rules) (nodes : List TreeNode) (least : Option ℤ) (kept : List ℕ) (bill : ℤ) → IsKeptSoFar r nodes least kept → IsBelow (Some bill) least
+pub below_so_far : (r : Rules) (nodes : List TreeNode) (least : Option ℤ) (kept : List ℕ) (bill : ℤ) → IsKeptSoFar r nodes least kept → IsBelow (Some bill) least
     → (j : ℕ) → IsBelow (Some bill) (bill_at nodes j)
 below_so_far r nodes None kept bill none below j = subst (IsBelow (Some bill)) (sym (none j)) tt
 below_so_far r nodes (Some least) kept bill held below j = below_at_most bill least (bill_at nodes j) below (held.earliest.least j)

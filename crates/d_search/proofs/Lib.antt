@@ -15,3 +15,4 @@ mod RuleFacts
 pub mod PromiseFacts
 pub mod BudgetFacts
 mod ThereFacts
+mod EndFacts

@@ -1,5 +1,5 @@
 -- One split of the first leaf, as the code makes it: the node is marked, and its halves are put behind.
-use Rattle.std.proofs.Common.{◌≡◌, ℕ, zero, suc, ◌+◌, ◌<◌, ◌≤◌, ℤ, List, [], ◌∷◌, ◌++◌, Option, Some, None, IsSome, MatchOption, is_none, false, length, slice_get, slice_set, slice_index_or, option_and_then, append_assoc, arith, sym, refl, ap, subst, ◌∙◌}
+use Rattle.std.proofs.Common.{◌≡◌, ℕ, zero, suc, ◌<◌, List, [], ◌∷◌, ◌++◌, Option, Some, None, IsSome, MatchOption, is_none, false, length, slice_get, slice_set, slice_index_or, option_and_then, append_assoc, sym, refl, ap, ◌∙◌}
 use Rattle.std.proofs.lemmas.Bool.{true≢false}
 use Rattle.std.proofs.lemmas.Option.{slice_get_within, same_Some, none-some}
 use Rattle.d_box.specs.declared.space.Space.{Space}

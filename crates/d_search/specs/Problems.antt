@@ -1,5 +1,5 @@
 -- What the search of a problem goes by, and what it answers. All of it is our own rule.
-use Rattle.std.specs.Prelude.{◌≡◌, ℕ, ℤ, List, [], Option, unwrap_or}
+use Rattle.std.specs.Prelude.{ℕ, ℤ, List, [], unwrap_or}
 use Rattle.d_box.specs.declared.space.Space.{Space}
 use Rattle.d_box.specs.declared.slopes.Slopes.{Slopes}
 use Rattle.d_box.specs.Halves.{left_of, right_of, combinations}

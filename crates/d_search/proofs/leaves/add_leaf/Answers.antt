@@ -1,4 +1,4 @@
-use Rattle.std.proofs.Common.{◌≡◌, ◌∙◌, None, ℕ, arith, ap, sym, subst, option_map, is_none, length, List, ℤ}
+use Rattle.std.proofs.Common.{◌≡◌, ◌∙◌, None, ℕ, arith, ap, is_none, length, List, ℤ}
 use Rattle.d_search.specs.Trees.{key_from}
 use Rattle.d_search.specs.Problems.{rules_of}
 use Rattle.d_search.specs.Growths.{key_with}

@@ -1,6 +1,5 @@
-use Rattle.std.proofs.Common.{◌≡◌, ◌∙◌, ◌++◌, ◌∷◌, [], List, ℤ, Some, MatchOption, arith, refl, ap, sym, subst, length, length-set, length-append, slice_get, slice_set}
+use Rattle.std.proofs.Common.{◌≡◌, ◌∙◌, ◌++◌, ◌∷◌, [], List, ℤ, Some, arith, refl, ap, sym, subst, length, length-set, length-append, slice_get, slice_set}
 use Rattle.d_bound.specs.Roots.{IsProblemBox}
-use Rattle.d_search.specs.Growths.{IsHalved}
 use Rattle.d_search.specs.Problems.{rules_of}
 use Rattle.d_search.specs.Trees.{leaf_of, split_node}
 use Rattle.d_search.proofs.GrowthFacts.{held_marked}
