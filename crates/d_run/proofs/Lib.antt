@@ -9,7 +9,6 @@ mod OddRows
 mod FilesKnown
 mod ScheduleBreaks
 mod PlanStages
-mod SearchFacts
 mod PlanFacts
 mod BudgetFacts
 mod SettleStages
