@@ -7,6 +7,10 @@ mod HeldFacts
 mod CountFacts
 mod StoodFacts
 mod SameFacts
+mod FrontFacts
+mod KeptFacts
+mod GrowthFacts
+mod StepFacts
 mod RuleFacts
 pub mod PromiseFacts
 pub mod BudgetFacts
@@ -15,3 +19,4 @@ pub mod LawfulFacts
 pub mod CountedFacts
 pub mod CandidateFacts
 pub mod SearchFacts
+mod EndFacts

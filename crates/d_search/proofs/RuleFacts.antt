@@ -1,5 +1,5 @@
 -- What the rules of a problem are, one by one; everything else is said of them closed.
-use Rattle.std.proofs.Common.{◌≡◌, ℕ, ◌<◌, ℤ, List, [], Option, Some, None, IfSome, length, map, option_map, unwrap_or, sym, subst, ap, refl, arith, ◌∙◌}
+use Rattle.std.proofs.Common.{◌≡◌, ℕ, ℤ, List, [], Option, Some, None, IfSome, length, map, option_map, unwrap_or, sym, subst, ap, refl, arith, ◌∙◌}
 use Rattle.d_box.specs.declared.space.Space.{Space}
 use Rattle.d_box.specs.declared.space.Split.{Split}
 use Rattle.d_box.specs.declared.space.Split.TheVariants.{Total, Peak}
@@ -14,9 +14,11 @@ use Rattle.d_bill.specs.Bills.{bill_of}
 use Rattle.d_bill.specs.Slopes.{tiered}
 use Rattle.d_bound.specs.declared.node.Node.{Node}
 use Rattle.d_bound.specs.Bounders.{IsWritten}
-use Rattle.d_bound.specs.BoxLaws.{HalvesAreBoxes}
-use Rattle.d_bound.specs.Nodes.{tiered_tables, box_schedule, node_of, tiers_in}
+use Rattle.d_bound.specs.BoxLaws.{HalvesAreBoxes, BoundsComeWithBills}
+use Rattle.d_bound.specs.Nodes.{tiered_tables, box_schedule, node_of}
 use Rattle.d_bound.specs.Roots.{root_box, IsProblemBox}
+use Rattle.d_search.specs.Rules.{ComeTogether}
+use Rattle.d_search.specs.Laws.{BoundsHaveBills}
 use Rattle.d_search.specs.Problems.{rules_of}
 use Rattle.d_search.specs.Growths.{IsGroupThere, IsHalved}
 
@@ -55,7 +57,7 @@ module _ (i : Inputs) (lists : List (List ℤ)) where
       → IfSome node.bill (λ bill. after ≡ (rules_of i lists).schedule_of space node.slopes)
   schedule_written space parent node before after is written =
       let billed : node.bill ≡ option_map (bill_of i) (box_schedule i space node.slopes) =
-          ap (λ (n : Node). n.bill) is ∙ sym (ap (λ (n : Node). option_map (bill_of i) (box_schedule i space n.slopes)) is) in
+      ap (λ (n : Node). n.bill) is ∙ sym (ap (λ (n : Node). option_map (bill_of i) (box_schedule i space n.slopes)) is) in
       subst (λ (o : Option ℤ). IfSome o (λ bill. after ≡ (rules_of i lists).schedule_of space node.slopes)) (sym billed)
       (subst (λ (s : List ℕ). IfSome (option_map (bill_of i) (box_schedule i space node.slopes)) (λ bill. after ≡ s)) (sym (schedule_is space node.slopes))
       (written_by (box_schedule i space node.slopes) before after written))
@@ -98,3 +100,7 @@ pub half_boxes : (lists : List (List ℤ)) (space : Space) (split : Split) (left
     → IsProblemBox lists space → left ≡ left_of space split → right ≡ right_of lists space split → IsProblemBox lists left × IsProblemBox lists right
 half_boxes lists space split left right boxes cut boxed is_left is_right =
     let both = boxes lists space split cut boxed in (subst (IsProblemBox lists) (sym is_left) both.0, subst (IsProblemBox lists) (sym is_right) both.1)
+
+-- the rules of a problem give a bound exactly where they give a bill
+pub bounds_billed : BoundsComeWithBills → (i : Inputs) (lists : List (List ℤ)) → BoundsHaveBills (rules_of i lists)
+bounds_billed together i lists space parent = subst ComeTogether (sym (node_is i lists space parent)) (together i space parent)

@@ -5,6 +5,8 @@ use Rattle.d_box.specs.declared.space.Space.{Space}
 use Rattle.d_box.specs.declared.space.Split.{Split}
 use Rattle.d_box.specs.declared.space.Split.TheVariants.{Total, Peak}
 use Rattle.d_bill.specs.Inputs.{Inputs}
+use Rattle.d_bound.specs.declared.bounder.Bounder.{Bounder}
+use Rattle.d_bound.specs.Bounders.{IsBounderOf}
 use Rattle.d_bound.specs.BoxLaws.{IsAtMost}
 use Rattle.d_bound.specs.Roots.{IsProblemBox}
 use Rattle.d_front.specs.declared.key.Key.{Key}
@@ -13,6 +15,7 @@ use Rattle.d_search.specs.declared.tree.TreeNode.{TreeNode}
 use Rattle.d_search.specs.declared.outcome.Verdict.{Verdict}
 use Rattle.d_search.specs.Rules.{Rules, IsBelow}
 use Rattle.d_search.specs.Trees.{key_of, bill_at}
+use Rattle.d_search.specs.Grown.{IsGrown}
 use Rattle.d_search.specs.Outcomes.{IsKept, IsStop}
 use Rattle.d_search.specs.Problems.{rules_of}
 
@@ -88,3 +91,10 @@ pub record IsHalved (r : Rules) (space : Space) (split : Split) (left right : Sp
   pub some : r.split_of space ≡ Some split
   pub left_is : left ≡ r.left_half space split
   pub right_is : right ≡ r.right_half space split
+
+-- a search between two splits: its bounder is that of the problem, its nodes were grown, no key is out, and its room is that of the budget
+pub record IsGrowing (i : Inputs) (b : Bounder) (budget : ℕ) (g : Growth) : Type 0 where
+  pub bounder : IsBounderOf i b
+  pub grown : IsGrown (rules_of i b.candidates) g.nodes.items
+  pub held : IsHeld i b.candidates g None
+  pub places : g.front.room ≡ budget

@@ -10,6 +10,7 @@ use crate::leaves::{add_root, split_leaf};
 use crate::outcome::{Outcome, Verdict};
 use crate::room::Room;
 use d_bill::Problem;
+use d_bound::bounds_come_with_bills;
 
 /// Searches for the schedule with the least bill, in the room that was made for this problem; it takes no further memory. It begins with the
 /// box of all schedules, and splits, again and again, the leaf that comes first, until no bound is below the least bill, or the first leaf
@@ -19,6 +20,7 @@ pub fn search(problem: &Problem, room: Room) -> Outcome
     requires room { IsRoomOf problem.now room }
     ensures outcome { IsSearched problem.now room.budget result }
 {
+    bounds_come_with_bills();
     let Room {
         mut bounder,
         mut growth,

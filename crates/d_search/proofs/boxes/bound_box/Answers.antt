@@ -1,4 +1,4 @@
-use Rattle.std.proofs.Common.{IfSome, sym, subst, ◌∙◌, ◌≡◌, option_map, length, arith}
+use Rattle.std.proofs.Common.{sym, ◌∙◌, ◌≡◌, option_map, length, arith}
 use Rattle.std.proofs.lemmas.List.{with_items_is}
 use Rattle.d_search.specs.Problems.{rules_of}
 use Rattle.d_search.proofs.RuleFacts.{node_is, schedule_written}
