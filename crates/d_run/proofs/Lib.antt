@@ -11,5 +11,6 @@ mod ScheduleBreaks
 mod PlanStages
 mod PlanFacts
 mod BudgetFacts
+mod PlanReplies
 mod SettleStages
 mod RowStages
