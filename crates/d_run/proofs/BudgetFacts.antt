@@ -1,6 +1,6 @@
 -- The budget of a plan is one.
 use Rattle.std.proofs.Common.{◌≡◌, ℕ, zero, suc, ◌+◌, ◌-◌, ◌*◌, ◌/◌, ◌%◌, ◌^◌, ◌<◌, ◌≤◌, List, Option, None, Some, length, refl, sym, ap, subst, ◌∙◌, arith}
-use Rattle.d_batt.specs.Storage.{IsStorage}
+use Rattle.std.proofs.lemmas.Nat.{mul-le}
 use Rattle.d_bill.specs.Inputs.{Inputs, IsInRange}
 use Rattle.d_bill.proofs.Deciding.{Decided, holds, fails, at_most}
 use Rattle.d_words.specs.Words.{GivesBudget}
@@ -21,23 +21,27 @@ record IsMostPairs (size pairs : ℕ) : Type 0 where
   fits : pairs * size ≤ 2 ^ 24
   more : (other : ℕ) → pairs < other → other ≤ 128 → 2 ^ 24 < other * size
 
+-- one number less is looked at
+one_less : (size n : ℕ) → n ≤ 126 → ((other : ℕ) → suc (suc n) < other → other ≤ 128 → 2 ^ 24 < other * size)
+    → (((other : ℕ) → suc n < other → other ≤ 128 → 2 ^ 24 < other * size) → (pairs : ℕ) × IsMostPairs size pairs)
+    → Decided (suc (suc n) * size ≤ 2 ^ 24) → (pairs : ℕ) × IsMostPairs size pairs
+one_less size n within more next (holds fits) = (suc (suc n), record { some = omega arith; few = omega (arith, within); fits = fits; more = more })
+one_less size n within more next (fails not) = next (λ other above below. by_place other above below (at_most other (suc (suc n))))
+  where
+    by_place : (other : ℕ) → suc n < other → other ≤ 128 → Decided (other ≤ suc (suc n)) → 2 ^ 24 < other * size
+    by_place other above below (holds le) =
+        let same : other ≡ suc (suc n) = omega (arith, above, le) in
+        let big : 2 ^ 24 < suc (suc n) * size = omega (arith, not) in
+        subst (λ (m : ℕ). 2 ^ 24 < m * size) (sym same) big
+    by_place other above below (fails far) = more other (omega (arith, far)) below
+
 most_pairs : (size : ℕ) → size ≤ 2 ^ 24 → (pairs : ℕ) × IsMostPairs size pairs
 most_pairs size small = down 127 (omega arith) (λ other above below. absurd (omega (arith, above, below)))
   where
     down : (n : ℕ) → n ≤ 127 → ((other : ℕ) → suc n < other → other ≤ 128 → 2 ^ 24 < other * size) → (pairs : ℕ) × IsMostPairs size pairs
     down zero within more = (1, record { some = omega arith; few = omega arith; fits = omega (arith, small); more = more })
-    down (suc n) within more = by_size (at_most (suc (suc n) * size) (2 ^ 24))
-      where
-        by_size : Decided (suc (suc n) * size ≤ 2 ^ 24) → (pairs : ℕ) × IsMostPairs size pairs
-        by_size (holds fits) = (suc (suc n), record { some = omega arith; few = omega (arith, within); fits = fits; more = more })
-        by_size (fails not) = down n (omega (arith, within)) (λ other above below. by_place other above below (at_most other (suc (suc n))))
-          where
-            by_place : (other : ℕ) → suc n < other → other ≤ 128 → Decided (other ≤ suc (suc n)) → 2 ^ 24 < other * size
-            by_place other above below (holds le) =
-                let same : other ≡ suc (suc n) = omega (arith, above, le) in
-                let big : 2 ^ 24 < suc (suc n) * size = omega (arith, not) in
-                subst (λ (m : ℕ). 2 ^ 24 < m * size) (sym same) big
-            by_place other above below (fails far) = more other (omega (arith, far)) below
+    down (suc n) within more =
+        one_less size n (omega (arith, within)) more (λ rest. down n (omega (arith, within)) rest) (at_most (suc (suc n) * size) (2 ^ 24))
 
 -- there is a default
 default_there : (intervals levels : ℕ) → (intervals + 1) * levels ≤ 2 ^ 24 → (budget : ℕ) × IsDefaultBudget intervals levels budget
@@ -85,7 +89,10 @@ budget_one i None fine some = of_default (default_there (length i.net) (levels_o
     few = let top = fine.storage.top in omega (arith, top)
 
     small : (length i.net + 1) * levels_of i.storage ≤ 2 ^ 24
-    small = let long = fine.few_intervals in ?
+    small =
+        let long = fine.few_intervals in
+        let most = mul-le (length i.net + 1) (levels_of i.storage) 8929 256 (omega (arith, long)) few in
+        omega (arith, most)
 
     of_default : (budget : ℕ) × IsDefaultBudget (length i.net) (levels_of i.storage) budget → (budget : ℕ) × IsOnlyBudget i None budget
     of_default (budget, is) = (budget, record { is = is; some = is.some; only = λ other also. default_same _ _ other budget also is })

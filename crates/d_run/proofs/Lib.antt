@@ -9,8 +9,8 @@ mod OddRows
 mod FilesKnown
 mod ScheduleBreaks
 mod PlanStages
-mod SearchFacts
 mod PlanFacts
 mod BudgetFacts
+mod PlanReplies
 mod SettleStages
 mod RowStages

@@ -1,5 +1,5 @@
 -- To every list of words and all files there is exactly one answer.
-use Rattle.std.proofs.Common.{◌≡◌, ◌⊎◌, inl, inr, ℕ, ◌^◌, ◌<◌, ◌≤◌, Option, Some, List, [], ◌∷◌, codes, length, refl, sym, ap, subst, ◌∙◌, arith}
+use Rattle.std.proofs.Common.{◌≡◌, ◌⊎◌, inl, inr, ℕ, ◌^◌, ◌<◌, ◌≤◌, Option, None, Some, List, [], ◌∷◌, codes, length, refl, sym, ap, subst, ◌∙◌, arith}
 use Rattle.d_desk.specs.Scene.{Files, bytes_in}
 use Rattle.d_bill.specs.Inputs.{Inputs, IsInRange}
 use Rattle.d_bill.specs.Schedules.{IsFeasible, IsFirstBreak}
@@ -39,7 +39,8 @@ use Rattle.d_run.proofs.FilesKnown.{month_known, battery_known, battery_is, sche
 use Rattle.d_run.proofs.PlanStages.{untiered_follows}
 use Rattle.d_run.proofs.PlanFacts.{none_feasible, is_least, is_between}
 use Rattle.d_run.proofs.BudgetFacts.{IsOnlyBudget, budget_one, given_some}
-use Rattle.d_run.proofs.SearchFacts.{IsOnlySearch, searched_once, search_promise}
+use Rattle.d_search.specs.ProblemLaws.{IsOnlySearch}
+use Rattle.d_search.proofs.SearchFacts.{searched_once, search_promise}
 use Rattle.d_run.proofs.SettleStages.{settled_decided, settled_follows}
 use Rattle.d_run.proofs.ScheduleBreaks.{break_or_feasible}
 
@@ -85,6 +86,13 @@ module _ {V : Type 0} (files : Files) (name : List ℕ) (limit : ℕ) (too_long 
           let above : limit < length (bytes_in files name) = omega arith in
           record { answer = after_opening name (refused too_long); is = is_too_long above refl; only = long_only above }
 
+-- a search that found the least bill, or that nothing is feasible, left no gap
+least_closed : (ended : Ending) (f : Found) → ended ≡ ending.Least → gap_of ended ≡ Some f → ⊥
+least_closed ended f is open_by = let e : None ≡ Some f = sym (ap gap_of is) ∙ open_by in absurd cc
+
+none_closed : (ended : Ending) (f : Found) → ended ≡ ending.Infeasible → gap_of ended ≡ Some f → ⊥
+none_closed ended f is open_by = let e : None ≡ Some f = sym (ap gap_of is) ∙ open_by in absurd cc
+
 -- a search that has one outcome has one answer
 module _ (i : Inputs) (budget : ℕ) (label : List ℕ) (o : Outcome) (only : IsOnlySearch i budget o) (promised : IsPromised i budget o) where
   -- the answer by an outcome with its gap
@@ -102,20 +110,20 @@ module _ (i : Inputs) (budget : ℕ) (label : List ℕ) (o : Outcome) (only : Is
   none_only : o.verdict ≡ ending.Infeasible → (other : Answer) → IsPlanned i budget label other → other ≡ says verdict.NoSchedule (line (codes "no schedule"))
   none_only is other (no_schedule p search ended none same) = same
   none_only is other (least p search ended best same) = let e = same_verdict p search in absurd cc
-  none_only is other (gap p search f ended between same) = let e = same_verdict p search in absurd cc
+  none_only is other (gap p search f ended between same) = absurd (none_closed p.verdict f (same_verdict p search ∙ is) ended)
 
   least_only : o.verdict ≡ ending.Least → (other : Answer) → IsPlanned i budget label other → other ≡ least_answer o
   unfolding least_answer
   least_only is other (no_schedule p search ended none same) = let e = same_verdict p search in absurd cc
   least_only is other (least p search ended best same) = same ∙ ap least_answer (only.only p search)
-  least_only is other (gap p search f ended between same) = let e = same_verdict p search in absurd cc
+  least_only is other (gap p search f ended between same) = absurd (least_closed p.verdict f (same_verdict p search ∙ is) ended)
 
   gap_only : (f : Found) → gap_of o.verdict ≡ Some f → (other : Answer) → IsPlanned i budget label other → other ≡ gap_answer f o
   unfolding gap_answer
-  gap_only f is other (no_schedule p search ended none same) = let e = same_verdict p search in absurd cc
-  gap_only f is other (least p search ended best same) = let e = same_verdict p search in absurd cc
+  gap_only f is other (no_schedule p search ended none same) = absurd (none_closed o.verdict f (sym (same_verdict p search) ∙ ended) is)
+  gap_only f is other (least p search ended best same) = absurd (least_closed o.verdict f (sym (same_verdict p search) ∙ ended) is)
   gap_only f is other (gap p search g ended between same) =
-      let e = same_verdict p search in
+      let both : Some g ≡ Some f = sym ended ∙ ap gap_of (same_verdict p search) ∙ is in
       let one : g ≡ f = cc in
       same ∙ ap (gap_answer g) (only.only p search) ∙ ap (λ (h : Found). gap_answer h o) one
 
