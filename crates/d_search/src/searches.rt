@@ -1,11 +1,14 @@
 //! The search for the schedule with the least bill.
 
-ghost use Rattle.std.specs.Prelude.{◌≡◌, []};
+ghost use Rattle.std.specs.Prelude.{◌≡◌, ◌+◌, ◌*◌, ◌≤◌, ℤ, List, []};
 ghost use Rattle.d_bill.specs.Slopes.{tiered};
-ghost use Rattle.d_search.specs.Problems.{IsSearched};
+ghost use Rattle.d_bound.specs.Roots.{AreCandidates, root_box};
+ghost use Rattle.d_search.specs.Laws.{IsDecided};
+ghost use Rattle.d_search.specs.Problems.{choices, IsPromised, IsSearched};
 ghost use Rattle.d_search.specs.Rooms.{IsRoomOf};
 
 use crate::ends::{finish, nothing, verdict_at};
+use crate::law::{searches_keep_promises, searches_suffice};
 use crate::leaves::{add_root, split_leaf};
 use crate::outcome::{Outcome, Verdict};
 use crate::room::Room;
@@ -16,6 +19,21 @@ use d_bound::bounds_come_with_bills;
 /// box of all schedules, and splits, again and again, the leaf that comes first, until no bound is below the least bill, or the first leaf
 /// can't be split, or its halves would be more boxes than the room's budget. Our own rule.
 pub fn search(problem: &Problem, room: Room) -> Outcome
+    requires untiered { tiered problem.now ≡ [] }
+    requires room { IsRoomOf problem.now room }
+    ensures outcome { IsSearched problem.now room.budget result }
+    ensures promise { IsPromised problem.now room.budget result }
+    ensures enough { (lists : List (List ℤ)) → AreCandidates problem.now lists → 2 * choices lists (root_box problem.now lists) ≤ room.budget + 1 → IsDecided result }
+{
+    // shows the ranges of the problem
+    let _count = problem.intervals();
+    searches_keep_promises();
+    searches_suffice();
+    grow(problem, room)
+}
+
+/// Splits the first leaf, again and again, until there is a reason to stop.
+fn grow(problem: &Problem, room: Room) -> Outcome
     requires untiered { tiered problem.now ≡ [] }
     requires room { IsRoomOf problem.now room }
     ensures outcome { IsSearched problem.now room.budget result }
