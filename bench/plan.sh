@@ -1,6 +1,6 @@
 #!/bin/sh
 # Times the built program on the first example, on an office's month, where demand is charged, and on two months with a battery of 256
-# levels: 744 readings with 9 modes, and 2976 readings with 8 modes and flat demand, at three budgets. It prints time, peak memory and the
+# levels: 744 readings with 9 modes, and 2976 readings with 8 modes and three groups of demand, at three budgets. It prints time, peak memory and the
 # number of boxes. It isn't part of the gate.
 . "$(dirname -- "$0")/lib.sh"
 built
@@ -8,8 +8,10 @@ cp "$top"/examples/first/*.csv "$work"
 for file in tariff readings battery; do cp "$top/examples/office/$file.csv" "$work/office-$file.csv"; done
 cd "$work" || exit 1
 python3 - <<'PY'
-with open("flat.csv", "w") as file:
-    file.write("label,energyratestructure/period0/tier0rate,flatdemandstructure/period0/tier0rate\nL,0.10,10\n")
+with open("demand.csv", "w") as file:
+    grid = "[%s]" % ",".join("[%s]" % ",".join(str(int(12 <= hour < 18)) for hour in range(24)) for month in range(12))
+    file.write("label,energyratestructure/period0/tier0rate,flatdemandstructure/period0/tier0rate,demandratestructure/period0/tier0rate,"
+               "demandratestructure/period1/tier0rate,demandweekdayschedule,demandweekendschedule\nL,0.10,10,5,9,\"%s\",\"%s\"\n" % (grid, grid))
 with open("hours.csv", "w") as file:
     file.write("start,net_wh\n")
     for hour in range(744):
@@ -49,5 +51,5 @@ plan() {
 plan tariff.csv L readings.csv battery.csv
 plan office-tariff.csv OFFICE-1 office-readings.csv office-battery.csv
 plan tariff.csv L hours.csv modes-9.csv
-for budget in 1 11 43; do plan flat.csv L quarters.csv modes-8.csv --budget "$budget"; done
+for budget in 1 11 43; do plan demand.csv L quarters.csv modes-8.csv --budget "$budget"; done
 measure 20 cp readings.csv copy.csv
