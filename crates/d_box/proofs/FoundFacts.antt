@@ -10,7 +10,8 @@ use Rattle.d_box.specs.Boxes.{range_at}
 use Rattle.d_box.specs.Splits.{peak_gap, no_peak, gap_at}
 use Rattle.d_box.specs.Steps.{IsWidestTo}
 
-gap_more : (P : ℕ → Type 0) (n : ℕ) → ((k : ℕ) → k < n → P k) → P n → (k : ℕ) → k < n + 1 → P k
+-- what holds of the first n numbers and of n
+pub gap_more : (P : ℕ → Type 0) (n : ℕ) → ((k : ℕ) → k < n → P k) → P n → (k : ℕ) → k < n + 1 → P k
 gap_more P n before here k lt = elim (cases_eq k n) [ inl e ↦ subst P (sym e) here | inr ne ↦ before k (omega arith) ]
 
 -- the next group's difference isn't greater

@@ -2,8 +2,9 @@
 use Rattle.std.proofs.Common.{ℕ, zero, suc, ℤ, pos, Bool, true, false, ◌≤ℤ◌, ◌<ℤ◌, ◌≡◌, ◌⊎◌, ◌<◌, ◌&&◌, if◌then◌else◌, int_lt, List, [], ◌∷◌, Option, Some, None, length, sym, subst, ap, refl, inl, inr, arith, ◌∙◌}
 use Rattle.std.specs.Int.{int_min}
 use Rattle.std.specs.List.{All}
-use Rattle.std.proofs.lemmas.Bool.{cases_eq, cases_lt}
+use Rattle.std.proofs.lemmas.Bool.{cases_lt}
 use Rattle.std.proofs.lemmas.Int.{ints}
+use Rattle.std.proofs.lemmas.Option.{same_Some, none-some}
 use Rattle.d_tier.specs.declared.tier.Tier.{Tier}
 use Rattle.d_tier.specs.declared.peak.Peak.{Peak as Group}
 use Rattle.d_tier.specs.TierEnds.{HasNoInner, IsInnerEnd, IsLowestInner}
@@ -13,9 +14,10 @@ use Rattle.d_box.specs.declared.space.Split.TheVariants.{Total, Peak}
 use Rattle.d_box.specs.Boxes.{range_at}
 use Rattle.d_box.specs.Candidates.{IsRising, list_at, AreEnds}
 use Rattle.d_box.specs.Halves.{SplitsAreOne}
-use Rattle.d_box.specs.Splits.{tiers_at, gap_at, HasNoTotal, IsFirstInner, IsWidestGroup, IsSplitOf}
+use Rattle.d_box.specs.Splits.{tiers_at, gap_at, IsFirstInner, IsWidestGroup, IsSplitOf}
 use Rattle.d_box.specs.SplitPlaces.{lesser_of, lower_end, lowest_end, or_total, total_split, wider_of, widest_of, middle_of, peak_split, split_or, split_place}
 use Rattle.d_box.specs.Steps.{IsFirstTotal, IsWidest}
+use Rattle.d_box.proofs.FoundFacts.{gap_more}
 use Rattle.d_box.proofs.SplitFacts.{peak_split as peak_is_split}
 
 -- one more tier before the others, whose end doesn't lie between
@@ -23,9 +25,6 @@ none_before : (tier : Tier) (rest : List Tier) (low high : ℤ) → HasNoInner r
     → ((end : ℤ) → tier.end ≡ Some end → low <ℤ end → high ≤ℤ end) → HasNoInner (tier ∷ rest) low high (suc (length rest))
 none_before tier rest low high none here zero end lt is above = here end is above
 none_before tier rest low high none here (suc k) end lt is above = none k end (omega arith) is above
-
-same_end : (end other : ℤ) → Some end ≡ Some other → end ≡ other
-same_end end other e = grind arith
 
 -- a tier without an end before the others
 before_open : (tier : Tier) (rest : List Tier) (low high : ℤ) (found : Option ℤ) → ((end : ℤ) → tier.end ≡ Some end → low <ℤ end → high ≤ℤ end)
@@ -60,7 +59,7 @@ before_inner tier rest low high end None there above below none = record {
   above = above;
   below = below;
   lowest = none_before tier rest low end (λ k other lt is over. let h = none k other lt is over in omega (arith, ints))
-      (λ other is over. let e = same_end end other (sym there ∙ is) in omega (arith, ints));
+      (λ other is over. let e = same_Some end other (sym there ∙ is) in omega (arith, ints));
 }
 before_inner tier rest low high end (Some at) there above below is = elim (lesser_is end at) [
   | inl h ↦ subst (λ z. IsLowestInner (tier ∷ rest) low high (suc (length rest)) z) (sym h.0) (record {
@@ -70,7 +69,7 @@ before_inner tier rest low high end (Some at) there above below is = elim (lesse
     above = above;
     below = below;
     lowest = none_before tier rest low end (λ k other lt here over. let q = is.lowest k other lt here over in let p = h.1 in omega (arith, ints))
-        (λ other here over. let e = same_end end other (sym there ∙ here) in omega (arith, ints));
+        (λ other here over. let e = same_Some end other (sym there ∙ here) in omega (arith, ints));
   })
   | inr h ↦ subst (λ z. IsLowestInner (tier ∷ rest) low high (suc (length rest)) z) (sym h.0) (record {
     tier = suc is.tier;
@@ -79,7 +78,7 @@ before_inner tier rest low high end (Some at) there above below is = elim (lesse
     above = is.above;
     below = is.below;
     lowest = none_before tier rest low at is.lowest
-        (λ other here over. let e = same_end end other (sym there ∙ here) in let p = h.1 in omega (arith, ints));
+        (λ other here over. let e = same_Some end other (sym there ∙ here) in let p = h.1 in omega (arith, ints));
   })
 ]
 
@@ -91,16 +90,13 @@ before_some tier rest low high end true found there e is =
     before_inner tier rest low high end found there h.0 h.1 is
 before_some tier rest low high end false found there e is =
     before_open tier rest low high found
-    (λ other here over. subst (λ z. high ≤ℤ z) (same_end end other (sym there ∙ here))
-    (outside_from low end high e (subst (λ z. low <ℤ z) (sym (same_end end other (sym there ∙ here))) over))) is
+    (λ other here over. subst (λ z. high ≤ℤ z) (same_Some end other (sym there ∙ here))
+    (outside_from low end high e (subst (λ z. low <ℤ z) (sym (same_Some end other (sym there ∙ here))) over))) is
 
 before_any : (tier : Tier) (rest : List Tier) (low high : ℤ) (end found : Option ℤ) → tier.end ≡ end → IsInnerEnd rest low high (length rest) found
     → IsInnerEnd (tier ∷ rest) low high (suc (length rest)) (lower_end low high end found)
 before_any tier rest low high None found there is =
-    before_open tier rest low high found (λ end here over. absurd (differ end (sym there ∙ here))) is
-  where
-    differ : (end : ℤ) → None ≡ Some end → ⊥
-    differ end e = grind arith
+    before_open tier rest low high found (λ end here over. absurd (none-some end (sym there ∙ here))) is
 before_any tier rest low high (Some end) found there is = before_some tier rest low high end (int_lt low end && int_lt end high) found there refl is
 
 -- the lowest end is one
@@ -123,19 +119,16 @@ inner_same tiers low high n (Some at) (Some other) is was =
     both : (x y : ℤ) → x ≤ℤ y → y ≤ℤ x → x ≡ y
     both x y a b = omega (arith, ints)
 
-no_total_more : (space : Space) (energy : List (List Tier)) (n : ℕ) → HasNoTotal space energy n
-    → HasNoInner (tiers_at energy n) (range_at space.totals n).low (range_at space.totals n).high (length (tiers_at energy n))
-    → HasNoTotal space energy (suc n)
-no_total_more space energy n before here k lt = elim (cases_eq k n) [
-  | inl e ↦ subst (λ j. HasNoInner (tiers_at energy j) (range_at space.totals j).low (range_at space.totals j).high (length (tiers_at energy j))) (sym e) here
-  | inr ne ↦ before k (omega arith)
-]
+-- what holds of the first n numbers and of n
+up_to_next : (P : ℕ → Type 0) (n : ℕ) → ((k : ℕ) → k < n → P k) → P n → (k : ℕ) → k < suc n → P k
+up_to_next P n before here k lt = gap_more P n before here k (omega arith)
 
 -- one more total
 total_more : (space : Space) (energy : List (List Tier)) (n : ℕ) (found : Option Split) (end : Option ℤ) → IsFirstTotal space energy n found
     → IsInnerEnd (tiers_at energy n) (range_at space.totals n).low (range_at space.totals n).high (length (tiers_at energy n)) end
     → IsFirstTotal space energy (suc n) (or_total found n end)
-total_more space energy n None None before here = no_total_more space energy n before here
+total_more space energy n None None before here =
+    up_to_next (λ k. HasNoInner (tiers_at energy k) (range_at space.totals k).low (range_at space.totals k).high (length (tiers_at energy k))) n before here
 total_more space energy n None (Some at) before here = record { inside = omega arith; lowest = here; first = before }
 total_more space energy n (Some (Total index at)) end is here =
     record { inside = (let i = is.inside in omega arith); lowest = is.lowest; first = is.first }
@@ -169,7 +162,7 @@ first_same space energy n index other at place is was = elim (cases_lt index oth
         let moved = subst (λ j. IsFirstInner space energy n j place) (sym e) was in
         let same = inner_same (tiers_at energy index) (range_at space.totals index).low (range_at space.totals index).high
         (length (tiers_at energy index)) (Some at) (Some place) is.lowest moved.lowest in
-        ap (λ j. Some (Total j at)) e ∙ ap (λ z. Some (Total other z)) (same_end at place same)
+        ap (λ j. Some (Total j at)) e ∙ ap (λ z. Some (Total other z)) (same_Some at place same)
 
 total_same : (space : Space) (energy : List (List Tier)) (n : ℕ) (one other : Option Split) → IsFirstTotal space energy n one
     → IsFirstTotal space energy n other → one ≡ other
@@ -180,9 +173,6 @@ total_same space energy n (Some (Total index at)) None is was = absurd (none_ins
 total_same space energy n (Some (Total index at)) (Some (Total other place)) is was = first_same space energy n index other at place is was
 total_same space energy n (Some (Total index at)) (Some (Peak group place)) is was = absurd was
 total_same space energy n (Some (Peak group at)) other is was = absurd is
-
-gap_more : (P : ℕ → Type 0) (n : ℕ) → ((k : ℕ) → k < n → P k) → P n → (k : ℕ) → k < suc n → P k
-gap_more P n before here k lt = elim (cases_eq k n) [ inl e ↦ subst P (sym e) here | inr ne ↦ before k (omega arith) ]
 
 below_from : (x y : ℤ) → int_lt x y ≡ true → x <ℤ y
 below_from x y e = grind (arith, ints)
@@ -198,10 +188,10 @@ wider_first space groups n true e none =
     record {
       inside = omega arith;
       some = over;
-      greatest = gap_more (λ k. gap_at space groups k ≤ℤ gap_at space groups n) n (λ k lt. let h = none k lt in omega (arith, ints)) (omega (arith, ints));
+      greatest = up_to_next (λ k. gap_at space groups k ≤ℤ gap_at space groups n) n (λ k lt. let h = none k lt in omega (arith, ints)) (omega (arith, ints));
       first = λ k lt. let h = none k lt in omega (arith, ints);
     }
-wider_first space groups n false e none = gap_more (λ k. gap_at space groups k ≤ℤ pos 0) n none (not_below (pos 0) (gap_at space groups n) e)
+wider_first space groups n false e none = up_to_next (λ k. gap_at space groups k ≤ℤ pos 0) n none (not_below (pos 0) (gap_at space groups n) e)
 
 -- one more group, where one was found
 wider_next : (space : Space) (groups : List Group) (n group : ℕ) (wider : Bool) → int_lt (gap_at space groups group) (gap_at space groups n) ≡ wider
@@ -211,13 +201,13 @@ wider_next space groups n group true e is =
     record {
       inside = omega arith;
       some = let s = is.some in omega (arith, ints);
-      greatest = gap_more (λ k. gap_at space groups k ≤ℤ gap_at space groups n) n (λ k lt. let h = is.greatest k lt in omega (arith, ints)) (omega (arith, ints));
+      greatest = up_to_next (λ k. gap_at space groups k ≤ℤ gap_at space groups n) n (λ k lt. let h = is.greatest k lt in omega (arith, ints)) (omega (arith, ints));
       first = λ k lt. let h = is.greatest k lt in omega (arith, ints);
     }
 wider_next space groups n group false e is = record {
   inside = let i = is.inside in omega arith;
   some = is.some;
-  greatest = gap_more (λ k. gap_at space groups k ≤ℤ gap_at space groups group) n is.greatest (not_below (gap_at space groups group) (gap_at space groups n) e);
+  greatest = up_to_next (λ k. gap_at space groups k ≤ℤ gap_at space groups group) n is.greatest (not_below (gap_at space groups group) (gap_at space groups n) e);
   first = is.first;
 }
 

@@ -1,6 +1,7 @@
 -- The rules of a problem in which no period is tiered are lawful.
 use Rattle.std.proofs.Common.{◌≡◌, ℕ, ℤ, ◌≤◌, List, [], Option, Some, None, length, option_map, unwrap_or, arith, sym, ap, refl, subst, ◌∙◌}
 use Rattle.std.proofs.lemmas.List.{length-map}
+use Rattle.std.proofs.lemmas.Option.{none-some}
 use Rattle.d_box.specs.declared.space.Space.{Space}
 use Rattle.d_box.specs.declared.space.Split.{Split}
 use Rattle.d_box.specs.declared.slopes.Slopes.{Slopes}
@@ -23,15 +24,12 @@ use Rattle.d_search.specs.Rules.{IsBillOf, IsLawful}
 use Rattle.d_search.specs.Laws.{BoundsHaveBills}
 use Rattle.d_search.specs.Problems.{schedule_in, rules_of, meaning_of}
 
-some_none : (z : ℤ) → Some z ≡ None → ⊥
-some_none z e = grind arith
-
 -- what is found of a schedule is none exactly where the schedule is none
 come_together : (relaxed bill : List ℕ → ℤ) (raise : ℤ → ℤ) (found : Option (List ℕ))
     → (option_map raise (option_map relaxed found) ≡ None → option_map bill found ≡ None)
     × (option_map bill found ≡ None → option_map raise (option_map relaxed found) ≡ None)
 come_together relaxed bill raise None = (λ e. refl, λ e. refl)
-come_together relaxed bill raise (Some s) = (λ e. absurd (some_none (raise (relaxed s)) e), λ e. absurd (some_none (bill s) e))
+come_together relaxed bill raise (Some s) = (λ e. absurd (none-some (raise (relaxed s)) (sym e)), λ e. absurd (none-some (bill s) (sym e)))
 
 -- the rules of each problem give a box a bound exactly where they give it a bill
 pub bounds_have_bills : (i : Inputs) (lists : List (List ℤ)) → BoundsHaveBills (rules_of i lists)
