@@ -1,7 +1,7 @@
-//! The tree of boxes that a search grows, what it answers, and what holds of every answer.
+//! The search for the schedule with the least bill: the tree of boxes that it grows, what it answers, and what holds of every answer.
 //!
-//! All definitions are over an abstract record of rules, which says what the node, the schedule, the split and the halves of a box are; this
-//! crate knows no tariff, battery or file.
+//! Most definitions are over an abstract record of rules, which says what the node, the schedule, the split and the halves of a box are; those
+//! of a problem are one such record.
 #![tactic(auto)]
 
 mod boxes;
@@ -16,7 +16,9 @@ mod searches;
 mod tree;
 
 pub use budget::{PRODUCT_LIMIT, default_budget, product_of};
-pub use law::{one_outcome, outcomes_are_there};
+pub use law::{
+    one_outcome, outcomes_are_there, searched_once, searches_keep_promises, searches_suffice,
+};
 pub use outcome::{Modes, Outcome, Verdict};
 pub use room::Room;
 pub use searches::search;
