@@ -127,10 +127,24 @@ fn searched_plan(
             plan_reply(alloc, label, problem, &outcome, Verdict::Done, Found::Least)
         }
         d_search::Verdict::GapBudget => {
-            plan_reply(alloc, label, problem, &outcome, Verdict::Gap, Found::GapBudget)
+            plan_reply(
+                alloc,
+                label,
+                problem,
+                &outcome,
+                Verdict::Gap,
+                Found::GapBudget,
+            )
         }
         d_search::Verdict::GapDuality => {
-            plan_reply(alloc, label, problem, &outcome, Verdict::Gap, Found::GapDuality)
+            plan_reply(
+                alloc,
+                label,
+                problem,
+                &outcome,
+                Verdict::Gap,
+                Found::GapDuality,
+            )
         }
         d_search::Verdict::Infeasible => no_plan_reply(alloc),
     }

@@ -106,3 +106,38 @@ fn an_export_limit_makes_it_charge(rt: HostRuntime) -> Result<(), Fail> {
         "\n2025-02-28T22:00 idle 1 1000\n2025-02-28T23:00 discharge 0 0",
     )
 }
+
+/// The example with flat demand, 5 kWh in the hour of the 12th at noon, and a battery that moves 1 kWh an hour.
+fn peaked(alloc: Global) -> Result<MemoryDesk, Fail> {
+    let mut desk = moving(alloc, "set,capacity,4,,,\n", 277, "2025-02-12T12:00,5000")?;
+    desk.put_file(
+        "tariff",
+        b"label,energyratestructure/period0/tier0rate,flatdemandstructure/period0/tier0rate\nL,0.10,10\n",
+    )?;
+    Ok(desk)
+}
+
+#[test]
+fn tells_a_gap_or_the_least_by_the_budget(rt: HostRuntime) -> Result<(), Fail> {
+    let alloc = rt.alloc();
+    let mut desk = peaked(alloc)?;
+    let line = format!(in alloc; "{PLAN} --budget 1")?;
+    let one_box = words(alloc, line.as_str())?;
+    assert_eq!(rt; run(alloc, one_box.as_slice(), &mut desk).number(), 6);
+    let printed = str::from_utf8(desk.printed_bytes())?;
+    assert!(rt;
+        printed.contains(
+            "\nverdict gap budget\nbill 117.60\nlower 67.60\nmetered 117.60\nboxes 1\n"
+        )
+    );
+    let mut desk = peaked(alloc)?;
+    let default = words(alloc, PLAN)?;
+    assert_eq!(rt; run(alloc, default.as_slice(), &mut desk).number(), 0);
+    let printed = str::from_utf8(desk.printed_bytes())?;
+    assert!(rt; printed.contains("\nverdict least\nbill 107.60\nmetered 117.60\nboxes 7\n"));
+    assert_eq!(rt;
+        telling_lines(alloc, printed)?.as_str(),
+        "bill 107.60\n2025-02-12T11:00 charge 1 2000\n2025-02-12T12:00 discharge 0 4000\n"
+    );
+    Ok(())
+}
