@@ -1,7 +1,8 @@
-//! The tree of boxes that a search grows, what it answers, and what holds of every answer.
+//! The search for the schedule of a month with the least bill, over boxes of highest demands; what it answers, and what holds of every answer.
 //!
-//! All definitions are over an abstract record of rules, which says what the node, the schedule, the split and the halves of a box are; this
-//! crate knows no tariff, battery or file.
+//! What a tree of boxes is and what an outcome promises is said over an abstract record of rules, which says what the node, the schedule, the
+//! split and the halves of a box are. A search goes by the rules of its problem; only `boxes` makes the calls that they stand for. This crate
+//! knows no record, reading or file.
 #![tactic(auto)]
 
 mod boxes;
