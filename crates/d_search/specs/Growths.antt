@@ -1,9 +1,10 @@
 -- What a search holds between its splits. Our own words; only calls of this crate cite the parts.
-use Rattle.std.specs.Prelude.{◌≡◌, ◌⊎◌, ℕ, ◌+◌, ◌<◌, ◌≤◌, ⊤, ℤ, List, [], ◌∷◌, ◌++◌, Option, Some, None, Bool, false, length, slice_get, option_map, sum_by}
+use Rattle.std.specs.Prelude.{◌≡◌, ◌⊎◌, ℕ, ◌+◌, ◌<◌, ◌≤◌, ⊤, ℤ, List, [], ◌∷◌, ◌++◌, Option, Some, None, Bool, false, length, slice_get, slice_set, option_map, MatchOption, sum_by}
 use Rattle.std.specs.Vec.{vec_capacity}
 use Rattle.d_box.specs.declared.space.Space.{Space}
 use Rattle.d_box.specs.declared.space.Split.{Split}
 use Rattle.d_box.specs.declared.space.Split.TheVariants.{Total, Peak}
+use Rattle.d_box.specs.declared.slopes.Slopes.{Slopes}
 use Rattle.d_bill.specs.Inputs.{Inputs}
 use Rattle.d_bound.specs.declared.bounder.Bounder.{Bounder}
 use Rattle.d_bound.specs.Bounders.{IsBounderOf}
@@ -14,7 +15,7 @@ use Rattle.d_search.specs.declared.growth.Growth.{Growth}
 use Rattle.d_search.specs.declared.tree.TreeNode.{TreeNode}
 use Rattle.d_search.specs.declared.outcome.Verdict.{Verdict}
 use Rattle.d_search.specs.Rules.{Rules, IsBelow}
-use Rattle.d_search.specs.Trees.{key_of, bill_at}
+use Rattle.d_search.specs.Trees.{key_of, bill_at, leaf_of, split_node}
 use Rattle.d_search.specs.Grown.{IsGrown}
 use Rattle.d_search.specs.Outcomes.{IsKept, IsStop}
 use Rattle.d_search.specs.Problems.{rules_of}
@@ -91,6 +92,19 @@ pub record IsHalved (r : Rules) (space : Space) (split : Split) (left right : Sp
   pub some : r.split_of space ≡ Some split
   pub left_is : left ≡ r.left_half space split
   pub right_is : right ≡ r.right_half space split
+
+-- what was found for a box: a split with its halves; none where it can't be split
+abbrev pub HasHalves : Rules → Space → Option Split → Space → Space → Type 0
+HasHalves r space found left right = MatchOption found (r.split_of space ≡ None) (λ split. IsHalved r space split left right)
+
+-- the node of this number was split, and its halves get the next two numbers
+abbrev pub HasMark : List TreeNode → ℕ → Split → List TreeNode → Type 0
+HasMark before number split after =
+    (n : TreeNode) → slice_get before number ≡ Some n → after ≡ slice_set before number (split_node n split (length before))
+
+-- one more node: that of a box whose parent has these slopes
+abbrev pub HasLeaf : Inputs → List (List ℤ) → Growth → Space → Option Slopes → Growth → Type 0
+HasLeaf i lists before space parent after = after.nodes.items ≡ before.nodes.items ++ leaf_of (rules_of i lists) space parent ∷ []
 
 -- a search between two splits: its bounder is that of the problem, its nodes were grown, no key is out, and its room is that of the budget
 pub record IsGrowing (i : Inputs) (b : Bounder) (budget : ℕ) (g : Growth) : Type 0 where

@@ -5,7 +5,7 @@ ghost use Rattle.d_bill.specs.Slopes.{tiered};
 ghost use Rattle.d_bound.specs.Bounders.{IsBounderOf};
 ghost use Rattle.d_bound.specs.Roots.{IsProblemBox};
 ghost use Rattle.d_box.specs.Halves.{IsCut, above_of, below_of};
-ghost use Rattle.d_search.specs.Growths.{IsGroupThere, IsHalved};
+ghost use Rattle.d_search.specs.Growths.{HasHalves, IsGroupThere};
 ghost use Rattle.d_search.specs.Problems.{rules_of};
 
 use d_bill::Problem;
@@ -88,7 +88,7 @@ pub(crate) fn halve(
     requires untiered { tiered problem.now ≡ [] }
     requires long { length candidates.now ≡ length problem.now.peaks }
     requires boxed { IsProblemBox candidates.now space.now }
-    ensures split { MatchOption result ((rules_of problem.now candidates.now).split_of space.now ≡ None) (λ split. IsHalved (rules_of problem.now candidates.now) space.now split left.new right.new) }
+    ensures split { HasHalves (rules_of problem.now candidates.now) space.now result left.new right.new }
     ensures left { IfSome result (λ _. IsProblemBox candidates.now left.new) }
     ensures right { IfSome result (λ _. IsProblemBox candidates.now right.new) }
 {

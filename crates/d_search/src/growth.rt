@@ -3,7 +3,7 @@
 ghost use Rattle.std.specs.Prelude.{◌≡◌, ◌<◌, ◌≤◌, ◌+◌, ◌^◌, ◌++◌, ◌∷◌, [], Some, None, length, slice_get, slice_set, IfOk};
 ghost use Rattle.std.specs.List.Sorted.{IsPermutation};
 ghost use Rattle.std.specs.Vec.{vec_capacity};
-ghost use Rattle.d_search.specs.Growths.{HasKept, key_with, one_key};
+ghost use Rattle.d_search.specs.Growths.{HasKept, HasMark, key_with, one_key};
 ghost use Rattle.d_search.specs.Rooms.{IsEmpty};
 ghost use Rattle.d_search.specs.Trees.{split_node};
 ghost use Rattle.d_search.specs.declared.tree.TreeNode.{TreeNode};
@@ -69,7 +69,7 @@ pub(crate) fn push_leaf(nodes: &mut Vec<TreeNode>, space: &Space, node: &Node)
 pub(crate) fn mark_split(nodes: &mut Vec<TreeNode>, number: u32, split: Split)
     requires inside { number < length nodes.old.items }
     requires few { length nodes.old.items + 1 < 2 ^ 32 }
-    ensures nodes { (n : TreeNode) → slice_get nodes.old.items number ≡ Some n → nodes.new.items ≡ slice_set nodes.old.items number (split_node n split (length nodes.old.items)) }
+    ensures nodes { HasMark nodes.old.items number split nodes.new.items }
     ensures space { vec_capacity nodes.new ≡ vec_capacity nodes.old }
 {
     let count = nodes.len() as u32;

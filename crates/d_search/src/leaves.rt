@@ -4,7 +4,7 @@ ghost use Rattle.std.specs.Prelude.{◌≡◌, ◌<◌, ◌≤◌, ◌+◌, ◌+
 ghost use Rattle.d_bill.specs.Slopes.{tiered};
 ghost use Rattle.d_bound.specs.Bounders.{IsBounderOf};
 ghost use Rattle.d_bound.specs.Roots.{IsProblemBox};
-ghost use Rattle.d_search.specs.Growths.{IsHeld};
+ghost use Rattle.d_search.specs.Growths.{HasLeaf, IsHeld};
 ghost use Rattle.d_search.specs.Problems.{rules_of};
 ghost use Rattle.d_search.specs.Rooms.{IsEmpty};
 ghost use Rattle.d_search.specs.Rules.{IsBelow};
@@ -49,7 +49,7 @@ fn add_leaf(
     ensures bounder { IsBounderOf problem.now bounder.new }
     ensures candidates { bounder.new.candidates ≡ bounder.old.candidates }
     ensures held { IsHeld problem.now bounder.old.candidates growth.new None }
-    ensures nodes { growth.new.nodes.items ≡ growth.old.nodes.items ++ leaf_of (rules_of problem.now bounder.old.candidates) space.now (option_map (λ s. s.now) parent.entry) ∷ [] }
+    ensures nodes { HasLeaf problem.now bounder.old.candidates growth.old space.now (option_map (λ s. s.now) parent.entry) growth.new }
     ensures places { growth.new.front.room ≡ growth.old.front.room }
 {
     let node = bound_box(problem, bounder, space, parent, &mut growth.trial);
