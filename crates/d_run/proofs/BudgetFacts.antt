@@ -1,5 +1,5 @@
 -- The budget of a plan is one.
-use Rattle.std.proofs.Common.{◌≡◌, ℕ, zero, suc, ◌+◌, ◌-◌, ◌*◌, ◌/◌, ◌%◌, ◌^◌, ◌<◌, ◌≤◌, List, Option, None, Some, length, refl, sym, ap, subst, ◌∙◌, arith}
+use Rattle.std.proofs.Common.{◌≡◌, ℕ, zero, suc, ◌+◌, ◌-◌, ◌*◌, ◌/◌, ◌%◌, ◌^◌, ◌<◌, ◌≤◌, List, Option, None, Some, length, refl, sym, subst, arith}
 use Rattle.std.proofs.lemmas.Nat.{mul-le}
 use Rattle.d_bill.specs.Inputs.{Inputs, IsInRange}
 use Rattle.d_bill.proofs.Deciding.{Decided, holds, fails, at_most}
@@ -51,13 +51,16 @@ default_there intervals levels small = of_pairs (most_pairs ((intervals + 1) * l
     half pairs some = omega (arith, some)
 
     of_pairs : (pairs : ℕ) × IsMostPairs ((intervals + 1) * levels) pairs → (budget : ℕ) × IsDefaultBudget intervals levels budget
-    of_pairs (pairs, is) = (2 * pairs - 1, record {
-      some = omega (arith, is.some);
-      odd = omega (arith, is.some);
-      most = omega (arith, is.few);
-      within = subst (λ (n : ℕ). n * ((intervals + 1) * levels) ≤ 2 ^ 24) (sym (half pairs is.some)) is.fits;
-      greatest = λ other odd most within. by_place other odd most within (at_most ((other + 1) / 2) pairs);
-    })
+    of_pairs (pairs, is) = (
+      2 * pairs - 1,
+      record {
+        some = omega (arith, is.some);
+        odd = omega (arith, is.some);
+        most = omega (arith, is.few);
+        within = subst (λ (n : ℕ). n * ((intervals + 1) * levels) ≤ 2 ^ 24) (sym (half pairs is.some)) is.fits;
+        greatest = λ other odd most within. by_place other odd most within (at_most ((other + 1) / 2) pairs);
+      },
+    )
       where
         by_place : (other : ℕ) → other % 2 ≡ 1 → other ≤ 255 → product other intervals levels ≤ 2 ^ 24 → Decided ((other + 1) / 2 ≤ pairs) → other ≤ 2 * pairs - 1
         by_place other odd most within (holds le) = omega (arith, odd, le)

@@ -1,5 +1,5 @@
 -- What the promise of an outcome says of a plan.
-use Rattle.std.proofs.Common.{◌≡◌, ◌≢◌, ◌∙◌, sym, refl, ℕ, ℤ, ◌≤ℤ◌, ◌<ℤ◌, List, Option, Some, None, subst}
+use Rattle.std.proofs.Common.{◌≡◌, ◌≢◌, ◌∙◌, sym, refl, ℕ, ℤ, ◌≤ℤ◌, ◌<ℤ◌, List, Some, subst}
 use Rattle.d_bill.specs.Inputs.{Inputs}
 use Rattle.d_bill.specs.Schedules.{IsFeasible}
 use Rattle.d_bill.specs.Bills.{bill_of, IsLeast}

@@ -1,5 +1,5 @@
 -- The replies that show what a search found, or that it is too large.
-use Rattle.std.proofs.Common.{◌≡◌, ◌≢◌, ◌∙◌, sym, refl, ap, ℕ, ◌^◌, ◌<◌, ◌≤◌, List, [], Option, Some, codes, subst}
+use Rattle.std.proofs.Common.{◌≡◌, ◌≢◌, refl, ap, ℕ, ◌^◌, ◌<◌, ◌≤◌, List, [], Option, Some, codes, subst}
 use Rattle.d_bill.specs.Inputs.{Inputs, IsInRange}
 use Rattle.d_bill.specs.Schedules.{IsFeasible}
 use Rattle.d_bill.specs.Slopes.{tiered}
@@ -14,7 +14,7 @@ use Rattle.d_report.specs.declared.finding.Found.TheVariants as found
 use Rattle.d_run.specs.declared.reply.Reply.{Reply}
 use Rattle.d_run.specs.declared.verdict.Verdict.TheVariants as verdict
 use Rattle.d_run.specs.declared.fault.Refusal.TheVariants.{Product}
-use Rattle.d_run.specs.Answer.{says, refused, refusal_verdict, refusal_text, finding, gap_of, product_for, IsBudgetOf, IsPlanned, no_schedule, least, gap, IsWithinSizes, is_too_large, is_within, IsPlanFor}
+use Rattle.d_run.specs.Answer.{says, refused, refusal_verdict, refusal_text, finding, gap_of, product_for, IsBudgetOf, IsPlanned, no_schedule, least, gap, is_too_large, is_within, IsPlanFor}
 use Rattle.d_run.specs.Replies.{IsReply, Shows}
 use Rattle.d_run.proofs.PlanFacts.{none_feasible, is_feasible, is_least, is_between}
 

@@ -1,5 +1,5 @@
 -- Which months are planned.
-use Rattle.std.proofs.Common.{◌≡◌, ◌∙◌, sym, List, [], Bool, false, IsTrue, true≢false, Result, Err}
+use Rattle.std.proofs.Common.{◌≡◌, ◌∙◌, sym, [], Bool, false, IsTrue, true≢false, Result, Err}
 use Rattle.d_desk.specs.Scene.{Scene}
 use Rattle.d_bill.specs.Inputs.{Inputs}
 use Rattle.d_bill.specs.Slopes.{tiered}

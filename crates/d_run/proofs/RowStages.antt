@@ -1,7 +1,7 @@
 -- What the rows of a file end in where their table or their reader refuses them.
 use Rattle.std.proofs.Common.{◌≡◌, inl, inr, ℕ, List, Result, Err, subst}
 use Rattle.d_table.specs.Table.{IsRectangular}
-use Rattle.d_run.specs.Answer.{Answer, refused, RefusesRows}
+use Rattle.d_run.specs.Answer.{refused, RefusesRows}
 use Rattle.d_run.specs.Replies.{EndsBy}
 use Rattle.d_run.specs.declared.fault.Fault.{Fault}
 use Rattle.d_run.specs.declared.fault.Refusal.{Refusal}
