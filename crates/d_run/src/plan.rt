@@ -123,52 +123,70 @@ fn searched_plan(
     let room = Room::make(alloc, problem, budget)?;
     let outcome = search(problem, room);
     match outcome.verdict {
-        d_search::Verdict::Least => {
-            plan_reply(alloc, label, problem, &outcome, Verdict::Done, Found::Least)
-        }
+        d_search::Verdict::Least => least_reply(alloc, label, problem, &outcome),
         d_search::Verdict::GapBudget => {
-            plan_reply(
-                alloc,
-                label,
-                problem,
-                &outcome,
-                Verdict::Gap,
-                Found::GapBudget,
-            )
+            gap_reply(alloc, label, problem, &outcome, Found::GapBudget)
         }
         d_search::Verdict::GapDuality => {
-            plan_reply(
-                alloc,
-                label,
-                problem,
-                &outcome,
-                Verdict::Gap,
-                Found::GapDuality,
-            )
+            gap_reply(alloc, label, problem, &outcome, Found::GapDuality)
         }
         d_search::Verdict::Infeasible => no_plan_reply(alloc),
     }
 }
 
-/// The reply that shows the feasible schedule of an outcome, with what is known of its bill.
-fn plan_reply(
+/// The reply that shows the schedule of an outcome as one with the least bill.
+fn least_reply(
     alloc: Global,
     label: &str,
     problem: &Problem,
     outcome: &Outcome,
-    verdict: Verdict,
-    found: Found,
 ) -> Result<Reply, NoMemory>
     requires { IsFeasible problem.now outcome.now.schedule }
-    ensures { IfOk result (Shows verdict (spec.plan_text problem.now label.now outcome.now.schedule (finding found outcome.now))) }
+    ensures { IfOk result
+        (Shows Verdict.Done (spec.plan_text problem.now label.now outcome.now.schedule (finding Found.Least outcome.now))) }
+{
+    let text = outcome_text(alloc, label, problem, outcome, Found::Least)?;
+    Ok(Reply {
+        verdict: Verdict::Done,
+        text,
+    })
+}
+
+/// The reply that shows the schedule of an outcome, and why a smaller bill may be possible.
+fn gap_reply(
+    alloc: Global,
+    label: &str,
+    problem: &Problem,
+    outcome: &Outcome,
+    gap: Found,
+) -> Result<Reply, NoMemory>
+    requires { IsFeasible problem.now outcome.now.schedule }
+    ensures { IfOk result (Shows Verdict.Gap (spec.plan_text problem.now label.now outcome.now.schedule (finding gap outcome.now))) }
+{
+    let text = outcome_text(alloc, label, problem, outcome, gap)?;
+    Ok(Reply {
+        verdict: Verdict::Gap,
+        text,
+    })
+}
+
+/// The text of the schedule of an outcome, with what is known of its bill.
+fn outcome_text(
+    alloc: Global,
+    label: &str,
+    problem: &Problem,
+    outcome: &Outcome,
+    found: Found,
+) -> Result<Vec<u8>, NoMemory>
+    requires { IsFeasible problem.now outcome.now.schedule }
+    ensures { IfOk result (λ text. text.items ≡ spec.plan_text problem.now label.now outcome.now.schedule (finding found outcome.now)) }
 {
     let finding = Finding {
         found,
         lower: outcome.lower,
         boxes: outcome.tree.count(),
     };
-    let text = plan_text(alloc, label, problem, outcome.schedule.list(), &finding)?;
-    Ok(Reply { verdict, text })
+    plan_text(alloc, label, problem, outcome.schedule.list(), &finding)
 }
 
 /// The reply that says that no schedule is feasible.
