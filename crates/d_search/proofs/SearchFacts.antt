@@ -52,5 +52,5 @@ suffices_by i lists budget o untiered candidates outcome ample =
 
 -- twice the choices of candidates, less one, suffice
 pub search_suffices : SearchesSuffice
-search_suffices i lists budget o untiered candidates searched ample =
+search_suffices i budget o untiered searched lists candidates ample =
     suffices_by i lists budget o untiered candidates (searched_by i lists budget o candidates searched) ample

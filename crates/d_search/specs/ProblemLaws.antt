@@ -20,8 +20,11 @@ HasExactlyOneSearch = (i : Inputs) (budget : ℕ) → 1 ≤ budget → (o : Outc
 abbrev pub SearchesKeepPromises : Type 0
 SearchesKeepPromises = (i : Inputs) (budget : ℕ) (o : Outcome) → IsUntiered i → IsSearched i budget o → IsPromised i budget o
 
--- where no period is tiered, and one candidate of each group can be chosen in N ways, a budget of 2 * N - 1 nodes suffices
+-- where one candidate of each group can be chosen in N ways, and the budget is at least 2 * N - 1 nodes, the search is decided
+abbrev pub IsDecidedByEnough : Inputs → ℕ → Outcome → Type 0
+IsDecidedByEnough i budget o =
+    (lists : List (List ℤ)) → AreCandidates i lists → 2 * choices lists (root_box i lists) ≤ budget + 1 → IsDecided o
+
+-- so it is for every search of a problem in which no period is tiered
 abbrev pub SearchesSuffice : Type 0
-SearchesSuffice =
-    (i : Inputs) (lists : List (List ℤ)) (budget : ℕ) (o : Outcome) → IsUntiered i → AreCandidates i lists → IsSearched i budget o
-    → 2 * choices lists (root_box i lists) ≤ budget + 1 → IsDecided o
+SearchesSuffice = (i : Inputs) (budget : ℕ) (o : Outcome) → IsUntiered i → IsSearched i budget o → IsDecidedByEnough i budget o

@@ -1,10 +1,9 @@
 //! The search for the schedule with the least bill.
 
-ghost use Rattle.std.specs.Prelude.{◌≡◌, ◌+◌, ◌*◌, ◌≤◌, ℤ, List, []};
+ghost use Rattle.std.specs.Prelude.{◌≡◌, []};
 ghost use Rattle.d_bill.specs.Slopes.{tiered};
-ghost use Rattle.d_bound.specs.Roots.{AreCandidates, root_box};
-ghost use Rattle.d_search.specs.Laws.{IsDecided};
-ghost use Rattle.d_search.specs.Problems.{choices, IsPromised, IsSearched};
+ghost use Rattle.d_search.specs.ProblemLaws.{IsDecidedByEnough};
+ghost use Rattle.d_search.specs.Problems.{IsPromised, IsSearched};
 ghost use Rattle.d_search.specs.Rooms.{IsRoomOf};
 
 use crate::ends::{finish, nothing, verdict_at};
@@ -23,7 +22,7 @@ pub fn search(problem: &Problem, room: Room) -> Outcome
     requires room { IsRoomOf problem.now room }
     ensures outcome { IsSearched problem.now room.budget result }
     ensures promise { IsPromised problem.now room.budget result }
-    ensures enough { (lists : List (List ℤ)) → AreCandidates problem.now lists → 2 * choices lists (root_box problem.now lists) ≤ room.budget + 1 → IsDecided result }
+    ensures enough { IsDecidedByEnough problem.now room.budget result }
 {
     // shows the ranges of the problem
     let _count = problem.intervals();

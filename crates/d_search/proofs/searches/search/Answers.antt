@@ -5,5 +5,4 @@ returns-clause-promise c = c.searches_keep_promises.ensures c.args.problem.now c
 
 pub returns-clause-enough : goal.returns-clause-enough
 returns-clause-enough c =
-    λ lists candidates ample. c.searches_suffice.ensures c.args.problem.now lists c.args.room.budget c.grow.result
-    (record { range = c.intervals-count.ensures.range; none = c.requires.untiered }) candidates c.grow.ensures.outcome ample
+    c.searches_suffice.ensures c.args.problem.now c.args.room.budget c.grow.result (record { range = c.intervals-count.ensures.range; none = c.requires.untiered }) c.grow.ensures.outcome
