@@ -26,6 +26,7 @@ in_range test next = if test then stands next else number
 unfoldable pub first : Place
 first = record { stage = stage.Version; days = 0; minutes = 0; intervals = 0; floor = 0; capacity = 0; modes = 0; groups = 0; tiered = 0; kind = Nothing; bill = pos 0; owed = 1; need = 1; leaves = 0 }
 
+-- the version comes first
 unfoldable pub at_version : Place → Line → Judgement
 at_version p version = stands (record p { stage = stage.Label })
 at_version p l = form
@@ -42,6 +43,7 @@ at_month p (month year m) = if nat_le year 9999 && nat_le m 99
     else form
 at_month p l = form
 
+-- the length of an interval
 unfoldable pub at_minutes : Place → Line → Judgement
 at_minutes p (minutes m) = in_range (is_length m) (record p { stage = stage.Intervals; minutes = unsigned_abs m })
 at_minutes p l = form
@@ -51,18 +53,22 @@ unfoldable pub at_intervals : Place → Line → Judgement
 at_intervals p (intervals n) = in_range (is_number (p.days * per_day p.minutes) n) (record p { stage = stage.Levels; intervals = unsigned_abs n })
 at_intervals p l = form
 
+-- the battery's levels
 unfoldable pub at_levels : Place → Line → Judgement
 at_levels p (levels f c s e) = in_range (are_levels f c s e) (record p { stage = stage.Modes; floor = unsigned_abs f; capacity = unsigned_abs c })
 at_levels p l = form
 
+-- the number of modes
 unfoldable pub at_modes : Place → Line → Judgement
 at_modes p (modes n) = in_range (from_to 1 64 n) (record p { stage = stage.Groups; modes = unsigned_abs n })
 at_modes p l = form
 
+-- the number of groups
 unfoldable pub at_groups : Place → Line → Judgement
 at_groups p (groups n) = in_range (from_to 0 37 n) (record p { stage = stage.Tiered; groups = unsigned_abs n })
 at_groups p l = form
 
+-- the number of tiered periods
 unfoldable pub at_tiered : Place → Line → Judgement
 at_tiered p (tiered n) = in_range (from_to 0 36 n) (record p { stage = stage.Verdict; tiered = unsigned_abs n })
 at_tiered p l = form
@@ -73,6 +79,7 @@ behind_verdict Least = stage.Day 1
 behind_verdict Gap = stage.Day 1
 behind_verdict Nothing = stage.Tree
 
+-- what is claimed
 unfoldable pub at_verdict : Place → Line → Judgement
 at_verdict p (verdict k) = stands (record p { stage = behind_verdict k; kind = k })
 at_verdict p l = form
@@ -94,6 +101,7 @@ behind_bill Gap = stage.Lower
 behind_bill Least = stage.Tree
 behind_bill Nothing = stage.Tree
 
+-- the bill, behind which a gap has its bound
 unfoldable pub at_bill : Place → Line → Judgement
 at_bill p (bill z) = in_range (is_amount z) (record p { stage = behind_bill p.kind; bill = z })
 at_bill p l = form
