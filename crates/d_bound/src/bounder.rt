@@ -161,7 +161,8 @@ impl Bounder {
     pub fn layer(&self, t: u32) -> &[Packed]
         requires filled { IsFilled self.now }
         requires day { IsAtDay self.now t }
-        ensures { HasCheapest (held_arcs self.now) t result.now }
+        ensures cheapest { HasCheapest (held_arcs self.now) t result.now }
+        ensures wide { (held_arcs self.now).floor + length result.now ≡ (held_arcs self.now).capacity + 1 }
     {
         let begin = self.day * self.layers.per_day();
         self.layers.row(self.day, t - begin)
