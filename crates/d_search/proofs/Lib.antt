@@ -20,3 +20,4 @@ pub mod CountedFacts
 pub mod CandidateFacts
 pub mod SearchFacts
 mod EndFacts
+pub mod ShapeFacts

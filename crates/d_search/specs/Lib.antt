@@ -9,3 +9,4 @@ pub mod Budgets
 pub mod Rooms
 pub mod Growths
 pub mod ProblemLaws
+pub mod Shapes

@@ -2,6 +2,7 @@
 
 ghost use Rattle.d_search.specs.Laws.{HasAtMostOneOutcome, HasExactlyOneOutcome};
 ghost use Rattle.d_search.specs.ProblemLaws.{HasExactlyOneSearch, SearchesKeepPromises, SearchesSuffice};
+ghost use Rattle.d_search.specs.Shapes.{SearchesFormTrees};
 
 /// Two outcomes of the same rules and of the same budget of nodes are the same: verdict, bill, bound, schedule and tree.
 pub fn one_outcome()
@@ -27,4 +28,10 @@ pub fn searches_keep_promises()
 /// least bill, or with no feasible schedule.
 pub fn searches_suffice()
     ensures { SearchesSuffice }
+{}
+
+/// Where no period is tiered, the nodes of a search form one tree, which has each of them once: halves come behind the box that they are of, each
+/// node's box is one of the problem, and where it was split it may be split.
+pub fn searches_form_trees()
+    ensures { SearchesFormTrees }
 {}

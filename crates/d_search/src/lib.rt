@@ -17,7 +17,8 @@ mod tree;
 
 pub use budget::{PRODUCT_LIMIT, default_budget, product_of};
 pub use law::{
-    one_outcome, outcomes_are_there, searched_once, searches_keep_promises, searches_suffice,
+    one_outcome, outcomes_are_there, searched_once, searches_form_trees, searches_keep_promises,
+    searches_suffice,
 };
 pub use outcome::{Modes, Outcome, Verdict};
 pub use room::Room;
