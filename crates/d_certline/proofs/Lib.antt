@@ -1,2 +1,5 @@
 pub mod DigitFacts
 pub mod LineFacts
+pub mod RangeFacts
+pub mod SoundFacts
+pub mod ShortFacts
