@@ -6,3 +6,4 @@ pub mod ShortFacts
 pub mod PartFacts
 pub mod OneLine
 pub mod FaultFacts
+pub mod EventFacts
