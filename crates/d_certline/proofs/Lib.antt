@@ -7,3 +7,4 @@ pub mod PartFacts
 pub mod OneLine
 pub mod FaultFacts
 pub mod EventFacts
+pub mod MadeFacts

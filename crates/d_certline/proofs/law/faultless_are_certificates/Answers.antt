@@ -1,0 +1,5 @@
+use Rattle.d_certline.proofs.MadeFacts.{made}
+use Rattle.d_certline.proofs.law.faultless_are_certificates.Goals as goal
+
+pub returns-clause-made : goal.returns-clause-made
+returns-clause-made c = made
