@@ -8,3 +8,4 @@ pub mod OneLine
 pub mod FaultFacts
 pub mod EventFacts
 pub mod MadeFacts
+pub mod OneCertificate
