@@ -9,3 +9,4 @@ pub mod FaultFacts
 pub mod EventFacts
 pub mod MadeFacts
 pub mod OneCertificate
+pub mod ShapeFacts
