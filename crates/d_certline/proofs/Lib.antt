@@ -10,3 +10,4 @@ pub mod EventFacts
 pub mod MadeFacts
 pub mod OneCertificate
 pub mod ShapeFacts
+pub mod OnlyFacts

@@ -163,11 +163,11 @@ stage_else : (b : Bool) (s t : Stage) → b ≡ false → (if b then s else t) �
 stage_else true s t e = absurd cc
 stage_else false s t e = refl
 
-day_next : (d days : ℕ) → d < days → behind_day d days ≡ stage.Day (suc d)
+pub day_next : (d days : ℕ) → d < days → behind_day d days ≡ stage.Day (suc d)
 unfolding behind_day
 day_next d days less = stage_if (nat_lt d days) (stage.Day (suc d)) stage.Bill (lt-ltb d days less)
 
-day_last : (d days : ℕ) → days ≤ d → behind_day d days ≡ stage.Bill
+pub day_last : (d days : ℕ) → days ≤ d → behind_day d days ≡ stage.Bill
 unfolding behind_day
 day_last d days most = stage_else (nat_lt d days) (stage.Day (suc d)) stage.Bill (le-ltb d days most)
 
