@@ -1,11 +1,11 @@
 -- Bytes have one event in each place.
-use Rattle.std.proofs.Common.{◌≡◌, ◌≢◌, ◌∙◌, ◌<◌, ◌≤◌, ◌+◌, ℕ, zero, suc, List, [], ◌∷◌, ◌++◌, length, arith, refl, sym, ap, ap₂, subst, append_assoc, inl, inr}
+use Rattle.std.proofs.Common.{◌≡◌, ◌∙◌, ◌<◌, ℕ, List, [], ◌∷◌, ◌++◌, length, arith, refl, sym, ap, ap₂, subst, append_assoc, inl, inr}
 use Rattle.std.specs.Prelude.{◌⊎◌}
 use Rattle.std.proofs.lemmas.List.{append-nil, length-append, append_cancel_left}
 use Rattle.d_certline.specs.declared.event.Event.{Event}
 use Rattle.d_certline.specs.declared.place.Place.{Place}
 use Rattle.d_certline.specs.Lines.{Line, line_text, text_of}
-use Rattle.d_certline.specs.Places.{stands, after, Stand, first}
+use Rattle.d_certline.specs.Places.{after, Stand, first}
 use Rattle.d_certline.specs.Events.{events}
 use Rattle.d_certline.specs.Faults.{HasNoLf, IsEvent, HasEvents}
 use Rattle.d_certline.proofs.FaultFacts.{next_line, front_line, no_line}

@@ -1,15 +1,14 @@
 -- Bytes have one reading by lines, and one fault.
-use Rattle.std.proofs.Common.{◌≡◌, ◌≢◌, ◌∙◌, ◌<◌, ◌≤◌, ◌+◌, ℕ, zero, suc, List, [], ◌∷◌, ◌++◌, length, arith, refl, sym, ap, ap₂, subst, append_assoc, inl, inr}
+use Rattle.std.proofs.Common.{◌≡◌, ◌≢◌, ◌∙◌, ◌<◌, ◌+◌, ℕ, List, [], ◌∷◌, ◌++◌, length, arith, refl, sym, ap, ap₂, subst, append_assoc, inl, inr}
 use Rattle.std.specs.Prelude.{◌⊎◌, Option, Some, None}
-use Rattle.std.proofs.lemmas.List.{append-nil, length-append}
+use Rattle.std.proofs.lemmas.List.{length-append}
 use Rattle.d_certline.specs.declared.fault.CertFault.{CertFault}
 use Rattle.d_certline.specs.declared.fault.CertFault.TheVariants as fault
 use Rattle.d_certline.specs.declared.place.Place.{Place}
-use Rattle.d_certline.specs.declared.place.Stage.{Stage}
 use Rattle.d_certline.specs.declared.place.Stage.TheVariants as stage
 use Rattle.d_certline.specs.Lines.{Line, line_text, text_of}
-use Rattle.d_certline.specs.Places.{Judgement, stands, number, form, after, after_at, Stand, first}
-use Rattle.d_certline.specs.Faults.{HasNoLf, IsShort, IsNumber, IsForm, EndsLine, IsLong, Faulty, Divides, FaultOf, too_long}
+use Rattle.d_certline.specs.Places.{stands, number, form, after, after_at, Stand, first}
+use Rattle.d_certline.specs.Faults.{HasNoLf, IsShort, IsNumber, IsForm, EndsLine, IsLong, Faulty, FaultOf}
 use Rattle.d_certline.proofs.LineFacts.{after_is, stood, text_of-none, text_of-more, stand_none, stand_more}
 use Rattle.d_certline.proofs.OneLine.{line_one}
 use Rattle.d_certline.proofs.ShortFacts.{sound_short}

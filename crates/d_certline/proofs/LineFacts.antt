@@ -1,12 +1,11 @@
 -- Lines, their texts and where they stand.
-use Rattle.std.proofs.Common.{◌≡◌, ◌∙◌, ◌<◌, ◌≤◌, ◌+◌, ◌*◌, ℕ, zero, suc, ℤ, pos, List, [], ◌∷◌, ◌++◌, length, arith, refl, sym, ap, subst, append_assoc}
+use Rattle.std.proofs.Common.{◌≡◌, ◌∙◌, List, [], ◌∷◌, ◌++◌, refl, sym, ap, subst, append_assoc}
 use Rattle.std.specs.List.{flat_map}
 use Rattle.std.proofs.lemmas.List.{append-nil}
-use Rattle.d_certline.specs.declared.event.Event.{Event}
 use Rattle.d_certline.specs.declared.place.Place.{Place}
 use Rattle.d_certline.specs.declared.place.Stage.{Stage}
 use Rattle.d_certline.specs.Lines.{Line, line_text, text_of, word, parts, spaced}
-use Rattle.d_certline.specs.Places.{Judgement, stands, number, form, after, after_at, Stand}
+use Rattle.d_certline.specs.Places.{stands, after, after_at, Stand}
 use Rattle.d_certline.specs.Events.{events, events_of}
 
 -- what is said of a line is said by its stage

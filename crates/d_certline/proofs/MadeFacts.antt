@@ -1,6 +1,6 @@
 -- The lines of a certificate in range stand.
-use Rattle.std.proofs.Common.{◌≡◌, ◌∙◌, ◌<◌, ◌≤◌, ◌+◌, ◌-◌, ◌*◌, ◌^◌, ◌/◌, ◌==◌, ◌&&◌, ◌||◌, ℕ, zero, suc, ℤ, pos, Bool, true, false, List, [], ◌∷◌, ◌++◌, length, arith, refl, sym, ap, subst, append_assoc, nat_le, nat_lt}
-use Rattle.std.specs.Prelude.{unsigned_abs, if◌then◌else◌, int_lt, Option, None}
+use Rattle.std.proofs.Common.{◌≡◌, ◌∙◌, ◌<◌, ◌≤◌, ◌+◌, ◌-◌, ◌*◌, ◌==◌, ◌&&◌, ◌||◌, ℕ, zero, suc, ℤ, pos, Bool, true, false, List, [], ◌∷◌, ◌++◌, length, arith, refl, sym, subst, append_assoc, nat_le, nat_lt}
+use Rattle.std.specs.Prelude.{unsigned_abs, if◌then◌else◌, int_lt, None}
 use Rattle.std.specs.List.{list_all, All}
 use Rattle.std.proofs.lemmas.Bool.{eq-eqb, ne_eqb, lt-ltb, le-ltb, le-leb, leb-true, and_parts, and_from}
 use Rattle.std.proofs.lemmas.List.{append-nil}
@@ -9,16 +9,16 @@ use Rattle.jiff_core.specs.Calendar.{days_in_month}
 use Rattle.jiff_core.proofs.CalendarLemmas.{days_in_month_bounds}
 use Rattle.d_num.specs.declared.pot.Pot.{Pot}
 use Rattle.d_certline.specs.declared.kind.Kind.{Kind}
-use Rattle.d_certline.specs.declared.kind.Kind.TheVariants.{Least, Gap, Nothing}
+use Rattle.d_certline.specs.declared.kind.Kind.TheVariants.{Least, Gap}
 use Rattle.d_certline.specs.declared.place.Place.{Place}
 use Rattle.d_certline.specs.declared.place.Stage.{Stage}
 use Rattle.d_certline.specs.declared.place.Stage.TheVariants as stage
 use Rattle.d_certline.specs.Lines.{Line, text_of}
 use Rattle.d_certline.specs.Lines as line
 use Rattle.d_certline.specs.Ranges.{from_to, is_index, is_number, is_label, is_length, are_levels, is_amount, is_slope, is_potential, is_cut, per_day, width, most_nodes, most_potentials, potentials}
-use Rattle.d_certline.specs.Places.{Judgement, stands, number, form, in_range, first, after, after_at, Stand, at_version, at_label, at_month, at_minutes, at_intervals, at_levels, at_modes, at_groups, at_tiered, at_verdict, at_day, at_bill, at_lower, at_tree, at_split, at_leaf, at_slopes, at_layer, behind_verdict, behind_day, behind_bill, below}
-use Rattle.d_certline.specs.Certificates.{Tree, leaf_of, total_at, peak_at, Found, least, gap, nothing, Certificate, certificate_lines, certificate_text, head_lines, found_lines, tree_lines, layer_lines, day_lines, kind_of, nodes_of, leaves_of, IsLayer, IsLeaf, IsTree, IsDay, IsPlan, IsFound, IsInRange, days_of, levels_of}
-use Rattle.d_certline.specs.Faults.{FaultOf, Faulty, Divides}
+use Rattle.d_certline.specs.Places.{stands, form, in_range, first, after, after_at, Stand, at_version, at_label, at_month, at_minutes, at_intervals, at_levels, at_modes, at_groups, at_tiered, at_verdict, at_day, at_bill, at_lower, at_tree, at_split, at_leaf, at_slopes, at_layer, behind_verdict, behind_day, behind_bill, below}
+use Rattle.d_certline.specs.Certificates.{Tree, leaf_of, total_at, peak_at, Found, least, gap, nothing, Certificate, certificate_lines, certificate_text, head_lines, found_lines, tree_lines, layer_lines, day_lines, kind_of, nodes_of, leaves_of, IsLayer, IsTree, IsDay, IsPlan, IsFound, IsInRange, days_of, levels_of}
+use Rattle.d_certline.specs.Faults.{FaultOf, Faulty}
 use Rattle.d_certline.proofs.LineFacts.{after_is, stand_cons, Stand-nil, Stand-append}
 use Rattle.d_certline.proofs.RangeFacts.{in_range_so, if_true, if_false}
 

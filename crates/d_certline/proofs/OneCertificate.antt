@@ -1,12 +1,8 @@
 -- Certificates in range that differ have different texts.
-use Rattle.std.proofs.Common.{◌≡◌, ◌∙◌, ◌<◌, ◌≤◌, ◌+◌, ℕ, zero, suc, ℤ, pos, List, [], ◌∷◌, ◌++◌, length, arith, refl, sym, ap, ap₂, subst, append_assoc}
-use Rattle.std.specs.Prelude.{unsigned_abs, Option, None}
+use Rattle.std.proofs.Common.{◌≡◌, ◌∙◌, ℕ, suc, ℤ, List, [], ◌∷◌, ◌++◌, length, arith, refl, sym, ap, ap₂, subst, append_assoc}
+use Rattle.std.specs.Prelude.{unsigned_abs}
 use Rattle.std.proofs.lemmas.List.{append-nil}
 use Rattle.d_num.specs.declared.pot.Pot.{Pot}
-use Rattle.d_certline.specs.declared.kind.Kind.{Kind}
-use Rattle.d_certline.specs.declared.kind.Kind.TheVariants.{Least, Gap, Nothing}
-use Rattle.d_certline.specs.declared.place.Place.{Place}
-use Rattle.d_certline.specs.declared.place.Stage.TheVariants as stage
 use Rattle.d_certline.specs.Lines.{Line, text_of}
 use Rattle.d_certline.specs.Lines as line
 use Rattle.d_certline.specs.Places.{first}

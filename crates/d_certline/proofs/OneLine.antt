@@ -1,15 +1,14 @@
 -- A text is that of one line at most.
-use Rattle.std.proofs.Common.{◌≡◌, ◌∙◌, ◌<◌, ◌≤◌, ◌+◌, ◌*◌, ◌==◌, ℕ, zero, suc, ℤ, pos, Bool, false, List, [], ◌∷◌, ◌++◌, length, map, get_or, arith, refl, sym, ap, ap₂, subst, append_assoc}
+use Rattle.std.proofs.Common.{◌≡◌, ◌∙◌, ◌+◌, ◌*◌, ℕ, ℤ, pos, List, [], ◌∷◌, ◌++◌, map, get_or, refl, sym, ap, ap₂}
 use Rattle.std.specs.Prelude.{codes}
-use Rattle.std.specs.List.{flat_map}
 use Rattle.std.proofs.lemmas.Bool.{eqb-false}
 use Rattle.std.proofs.lemmas.List.{append-nil, append_cancel_left}
 use Rattle.d_num.specs.declared.pot.Pot.{Pot}
-use Rattle.d_num.specs.declared.pot.Pot.TheVariants.{To, NoWay}
+use Rattle.d_num.specs.declared.pot.Pot.TheVariants.{To}
 use Rattle.d_certline.specs.declared.kind.Kind.{Kind}
 use Rattle.d_certline.specs.declared.kind.Kind.TheVariants.{Least, Gap, Nothing}
 use Rattle.d_certline.specs.Wholes.{padded}
-use Rattle.d_certline.specs.Lines.{Line, version, label, month, minutes, intervals, levels, modes, groups, tiered, verdict, day, bill, lower, total, peak, leaf, slopes, layer, finish, line_text, word, parts, spaced, pot_text, kind_text}
+use Rattle.d_certline.specs.Lines.{Line, version, label, month, minutes, intervals, levels, modes, groups, tiered, verdict, day, bill, lower, total, peak, leaf, slopes, layer, finish, line_text, word, parts, kind_text}
 use Rattle.d_certline.proofs.DigitFacts.{padded_digits, padded_one}
 use Rattle.d_certline.proofs.PartFacts.{parts_one, numbers_one, digits_one}
 

@@ -1,6 +1,6 @@
 -- Lines that stand from the first one on to the end are those of a certificate in range.
-use Rattle.std.proofs.Common.{◌≡◌, ◌∙◌, ◌<◌, ◌≤◌, ◌+◌, ◌*◌, ◌==◌, ◌&&◌, ℕ, zero, suc, ℤ, pos, Bool, true, false, List, [], ◌∷◌, ◌++◌, length, arith, refl, sym, ap, ap₂, subst, append_assoc, nat_le, nat_lt, inl, inr}
-use Rattle.std.specs.Prelude.{unsigned_abs, if◌then◌else◌, int_lt, Option, None}
+use Rattle.std.proofs.Common.{◌≡◌, ◌∙◌, ◌≤◌, ◌+◌, ◌*◌, ◌==◌, ◌&&◌, ℕ, zero, suc, ℤ, pos, true, List, [], ◌∷◌, ◌++◌, length, arith, refl, sym, ap, ap₂, subst, append_assoc, nat_le, inl, inr}
+use Rattle.std.specs.Prelude.{unsigned_abs, int_lt, None}
 use Rattle.std.specs.List.{list_all, All}
 use Rattle.std.proofs.lemmas.Bool.{eqb-true, and_parts, and_from, cases_lt}
 use Rattle.std.proofs.lemmas.List.{append-nil}
@@ -13,9 +13,9 @@ use Rattle.d_certline.specs.declared.place.Stage.{Stage}
 use Rattle.d_certline.specs.declared.place.Stage.TheVariants as stage
 use Rattle.d_certline.specs.Lines.{Line, text_of, version, label, month, minutes, intervals, levels, modes, groups, tiered, verdict, day, bill, lower, finish}
 use Rattle.d_certline.specs.Ranges.{from_to, is_index, is_number, is_label, is_length, are_levels, is_amount, per_day, width, most_nodes, most_potentials, potentials}
-use Rattle.d_certline.specs.Places.{Judgement, stands, form, in_range, first, after, after_at, Stand, at_version, at_label, at_month, at_minutes, at_intervals, at_levels, at_modes, at_groups, at_tiered, at_verdict, at_day, at_bill, at_lower, behind_verdict, behind_day, behind_bill}
+use Rattle.d_certline.specs.Places.{stands, in_range, first, after_at, Stand, at_version, at_label, at_month, at_minutes, at_intervals, at_levels, at_modes, at_groups, at_tiered, at_verdict, at_day, at_bill, at_lower, behind_verdict, behind_day, behind_bill}
 use Rattle.d_certline.specs.Certificates.{Found, least, gap, nothing, Certificate, certificate_lines, certificate_text, head_lines, found_lines, tree_lines, day_lines, kind_of, Tree, nodes_of, leaves_of, IsDay, IsPlan, IsFound, IsTree, IsInRange, days_of, levels_of}
-use Rattle.d_certline.specs.Faults.{FaultOf, Faulty, Divides}
+use Rattle.d_certline.specs.Faults.{FaultOf, Faulty}
 use Rattle.d_certline.proofs.LineFacts.{after_is, stood, stand_none, stand_more}
 use Rattle.d_certline.proofs.MadeFacts.{day_next, day_last}
 use Rattle.d_certline.proofs.RangeFacts.{ranged, if_so}

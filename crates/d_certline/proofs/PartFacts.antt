@@ -1,7 +1,7 @@
 -- The parts of a line have one reading.
-use Rattle.std.proofs.Common.{◌≡◌, ◌∙◌, ◌<◌, ◌≤◌, ◌+◌, ◌*◌, ℕ, zero, suc, ℤ, pos, negsuc, List, [], ◌∷◌, ◌++◌, length, map, arith, refl, sym, ap, ap₂, subst, append_assoc}
+use Rattle.std.proofs.Common.{◌≡◌, ℕ, suc, ℤ, pos, negsuc, List, [], ◌∷◌, ◌++◌, map, arith, refl, sym, ap, ap₂}
 use Rattle.std.specs.List.{flat_map}
-use Rattle.std.proofs.lemmas.List.{append-nil, append_cancel_left}
+use Rattle.std.proofs.lemmas.List.{append_cancel_left}
 use Rattle.d_num.specs.declared.pot.Pot.{Pot}
 use Rattle.d_num.specs.declared.pot.Pot.TheVariants.{To, NoWay}
 use Rattle.d_certline.specs.Lines.{spaced, pot_text}

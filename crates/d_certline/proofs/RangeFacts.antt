@@ -1,12 +1,11 @@
 -- What the tests of ranges say.
-use Rattle.std.proofs.Common.{◌≡◌, ◌∙◌, ◌<◌, ◌≤◌, ◌+◌, ◌-◌, ◌*◌, ◌^◌, ◌/◌, ◌==◌, ◌&&◌, ◌||◌, ℕ, zero, suc, ℤ, pos, negsuc, Bool, true, false, List, [], ◌∷◌, length, arith, refl, sym, ap, inl, inr, subst, nat_le, nat_lt}
+use Rattle.std.proofs.Common.{◌≡◌, ◌<◌, ◌≤◌, ◌^◌, ◌&&◌, ◌||◌, ℕ, ℤ, pos, negsuc, Bool, true, false, arith, refl, ap, inl, inr, nat_le}
 use Rattle.std.specs.Prelude.{◌⊎◌, unsigned_abs, if◌then◌else◌}
-use Rattle.std.specs.List.{list_all}
 use Rattle.std.proofs.lemmas.Bool.{leb-true, ltb-true, eqb-true, and_parts, or_cases}
 use Rattle.std.proofs.Math.Nat.{div-le_of_le-mul}
 use Rattle.d_certline.specs.declared.place.Place.{Place}
 use Rattle.d_certline.specs.Ranges.{from_to, is_index, is_number, is_sized, is_length, are_levels, is_amount, is_slope, is_cut, per_day}
-use Rattle.d_certline.specs.Places.{Judgement, stands, number, form, in_range}
+use Rattle.d_certline.specs.Places.{Judgement, stands, form, in_range}
 
 -- a line that stands has passed the tests
 pub ranged : (b : Bool) (r q : Place) → in_range b r ≡ stands q → (b ≡ true) × (r ≡ q)

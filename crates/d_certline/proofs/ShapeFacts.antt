@@ -1,6 +1,5 @@
 -- Lines that stand behind the bill are those of trees that are owed.
-use Rattle.std.proofs.Common.{◌≡◌, ◌∙◌, ◌<◌, ◌≤◌, ◌+◌, ◌-◌, ◌*◌, ◌^◌, ◌==◌, ◌&&◌, ◌||◌, ℕ, zero, suc, ℤ, pos, Bool, true, false, List, [], ◌∷◌, ◌++◌, length, arith, refl, sym, ap, ap₂, subst, append_assoc, nat_le, nat_lt}
-use Rattle.std.specs.Prelude.{unsigned_abs}
+use Rattle.std.proofs.Common.{◌≡◌, ◌∙◌, ◌<◌, ◌≤◌, ◌+◌, ◌-◌, ◌==◌, ◌&&◌, ◌||◌, ℕ, zero, suc, ℤ, Bool, true, false, List, [], ◌∷◌, ◌++◌, length, arith, refl, sym, ap, ap₂, subst, append_assoc, nat_lt}
 use Rattle.std.specs.List.{list_all, All, AllByRecursion, flat_map}
 use Rattle.std.proofs.lemmas.Bool.{eqb-true, eqb-false, ltb-false, and_parts}
 use Rattle.std.proofs.lemmas.List.{append-nil}
@@ -8,11 +7,11 @@ use Rattle.d_num.specs.declared.pot.Pot.{Pot}
 use Rattle.d_certline.specs.declared.place.Place.{Place}
 use Rattle.d_certline.specs.declared.place.Stage.{Stage}
 use Rattle.d_certline.specs.declared.place.Stage.TheVariants as stage
-use Rattle.d_certline.specs.Lines.{Line, version, total, peak, leaf, slopes, layer, finish}
+use Rattle.d_certline.specs.Lines.{Line, total, peak, leaf, slopes, layer, finish}
 use Rattle.d_certline.specs.Ranges.{is_index, is_slope, is_potential, is_cut, width, most_nodes, most_potentials, potentials}
-use Rattle.d_certline.specs.Places.{Judgement, stands, number, form, in_range, after, after_at, Stand, at_tree, at_split, at_leaf, at_slopes, at_layer, below}
+use Rattle.d_certline.specs.Places.{stands, in_range, after, after_at, Stand, at_tree, at_split, at_leaf, at_slopes, at_layer, below}
 use Rattle.d_certline.specs.Certificates.{Tree, leaf_of, total_at, peak_at, tree_lines, layer_lines, nodes_of, leaves_of, IsLayer, IsLeaf, IsTree}
-use Rattle.d_certline.proofs.LineFacts.{after_is, stood, stand_none, stand_more}
+use Rattle.d_certline.proofs.LineFacts.{stood, stand_none, stand_more}
 use Rattle.d_certline.proofs.RangeFacts.{ranged, if_so, if_not}
 
 -- how many nodes and leaves trees have together

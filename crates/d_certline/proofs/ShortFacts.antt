@@ -1,13 +1,11 @@
 -- A line that stands has no line feed in it and is short.
-use Rattle.std.proofs.Common.{◌≡◌, ◌≢◌, ◌∙◌, ◌<◌, ◌≤◌, ◌+◌, ◌*◌, ◌^◌, ℕ, zero, suc, ℤ, pos, List, [], ◌∷◌, ◌++◌, length, arith, refl, sym, ap, subst}
-use Rattle.std.specs.Prelude.{unsigned_abs}
+use Rattle.std.proofs.Common.{◌≡◌, ◌≤◌, ◌*◌, ℕ, List, [], ◌∷◌, ◌++◌, length, arith, sym, ap, subst}
 use Rattle.std.specs.List.{flat_map, AllByRecursion}
 use Rattle.std.proofs.lemmas.List.{length-append}
 use Rattle.d_num.specs.declared.pot.Pot.{Pot}
 use Rattle.d_num.specs.declared.pot.Pot.TheVariants.{To, NoWay}
 use Rattle.d_certline.specs.declared.place.Place.{Place}
 use Rattle.d_certline.specs.Lines.{Line, line_text, word, parts, spaced, pot_text}
-use Rattle.d_certline.specs.Wholes.{whole}
 use Rattle.d_certline.specs.Places.{stands, after, Stand, first}
 use Rattle.d_certline.specs.Faults.{HasNoLf, IsShort}
 use Rattle.d_certline.proofs.DigitFacts.{AreClean, whole_clean, whole_le}

@@ -1,8 +1,8 @@
 -- What holds of each place at which lines that stand end, and of each line that stands.
-use Rattle.std.proofs.Common.{◌≡◌, ◌∙◌, ◌<◌, ◌≤◌, ◌+◌, ◌-◌, ◌*◌, ◌^◌, ◌/◌, ◌==◌, ◌&&◌, ◌||◌, ℕ, zero, suc, ℤ, pos, negsuc, Bool, true, false, List, [], ◌∷◌, ◌++◌, length, map, arith, refl, sym, ap, inl, inr, subst, nat_le, nat_lt}
+use Rattle.std.proofs.Common.{◌≡◌, ◌<◌, ◌≤◌, ◌+◌, ◌-◌, ◌*◌, ◌^◌, ◌==◌, ◌&&◌, ◌||◌, ℕ, zero, suc, ℤ, pos, Bool, true, false, List, [], ◌∷◌, ◌++◌, length, map, arith, refl, sym, ap, inl, inr, subst, nat_le, nat_lt}
 use Rattle.std.specs.Prelude.{◌⊎◌, unsigned_abs, if◌then◌else◌, codes, int_lt}
 use Rattle.std.specs.List.{list_all, AllByRecursion}
-use Rattle.std.proofs.lemmas.Bool.{leb-true, leb-false, ltb-true, ltb-false, eqb-true, eqb-false, and_parts, or_cases, cases_Bool}
+use Rattle.std.proofs.lemmas.Bool.{leb-true, ltb-true, ltb-false, eqb-true, and_parts}
 use Rattle.std.proofs.lemmas.List.{length-map, length-append}
 use Rattle.std.proofs.lemmas.Nat.{mul-le}
 use Rattle.jiff_core.specs.Calendar.{days_in_month}
@@ -17,10 +17,10 @@ use Rattle.d_certline.specs.declared.place.Stage.TheVariants as stage
 use Rattle.d_certline.specs.Wholes.{padded}
 use Rattle.d_certline.specs.Lines.{Line, version, label, month, minutes, intervals, levels, modes, groups, tiered, verdict, day, bill, lower, total, peak, leaf, slopes, layer, finish, word, parts, kind_text}
 use Rattle.d_certline.specs.Ranges.{from_to, is_index, is_number, is_label, is_length, are_levels, is_amount, is_slope, is_potential, is_cut, is_printed, per_day, width, most_nodes, most_potentials, potentials}
-use Rattle.d_certline.specs.Places.{Judgement, stands, number, form, first, after, after_at, Stand, in_range, at_version, at_label, at_month, at_minutes, at_intervals, at_levels, at_modes, at_groups, at_tiered, at_verdict, at_day, at_bill, at_lower, at_tree, at_split, at_leaf, at_slopes, at_layer, behind_verdict, behind_day, behind_bill, below}
+use Rattle.d_certline.specs.Places.{stands, first, after, after_at, Stand, in_range, at_version, at_label, at_month, at_minutes, at_intervals, at_levels, at_modes, at_groups, at_tiered, at_verdict, at_day, at_bill, at_lower, at_tree, at_split, at_leaf, at_slopes, at_layer, behind_verdict, behind_day, behind_bill, below}
 use Rattle.d_certline.proofs.DigitFacts.{AreDigits, padded_digits, padded_four, padded_two}
-use Rattle.d_certline.proofs.LineFacts.{stood, after_is, stand_none, stand_more}
-use Rattle.d_certline.proofs.RangeFacts.{ranged, if_so, if_not, from_to_is, is_index_is, is_number_is, is_number_of, is_length_is, are_levels_is, is_amount_is, is_slope_is, is_cut_is, per_day_le, per_day_none}
+use Rattle.d_certline.proofs.LineFacts.{stood, stand_none, stand_more}
+use Rattle.d_certline.proofs.RangeFacts.{ranged, if_so, if_not, from_to_is, is_index_is, is_number_of, is_length_is, are_levels_is, is_amount_is, is_slope_is, is_cut_is, per_day_le, per_day_none}
 
 -- the numbers of a stage are in range
 abbrev pub IsStaged : Stage → ℕ → Type 0
