@@ -1,5 +1,5 @@
 -- Certificates as plain values, and their texts. The form is our own rule.
-use Rattle.std.specs.Prelude.{◌≡◌, ℕ, suc, ◌+◌, ◌*◌, ◌<◌, ◌≤◌, ℤ, ◌<ℤ◌, int_lt, ◌&&◌, nat_le, unsigned_abs, List, [], ◌∷◌, ◌++◌, length, true, ⊤}
+use Rattle.std.specs.Prelude.{◌≡◌, ℕ, suc, ◌+◌, ◌*◌, ◌≤◌, ℤ, int_lt, ◌&&◌, nat_le, unsigned_abs, List, [], ◌∷◌, ◌++◌, length, true, ⊤}
 use Rattle.std.specs.List.{list_all, All}
 use Rattle.jiff_core.specs.Calendar.{days_in_month}
 use Rattle.std.specs.Prelude.{pos}

@@ -1,7 +1,5 @@
 -- What the lines of a certificate say. It is our own rule.
-use Rattle.std.specs.Prelude.{ℕ, ℤ, unsigned_abs, pos, List, [], ◌∷◌, ◌++◌, map}
-use Rattle.std.specs.List.{flat_map}
-use Rattle.d_num.specs.declared.pot.Pot.{Pot}
+use Rattle.std.specs.Prelude.{unsigned_abs, pos, List, [], ◌∷◌, ◌++◌, map}
 use Rattle.d_box.specs.declared.space.Split.TheVariants as split
 use Rattle.d_certline.specs.declared.event.Event.{Event}
 use Rattle.d_certline.specs.declared.event.Event.TheVariants as event

@@ -5,3 +5,4 @@ pub mod Places
 pub mod Certificates
 pub mod Events
 pub mod Faults
+pub mod Laws

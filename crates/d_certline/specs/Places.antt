@@ -1,8 +1,7 @@
 -- Which line of a certificate may stand where. All of it is our own rule.
-use Rattle.std.specs.Prelude.{ℕ, zero, suc, ◌+◌, ◌-◌, ◌*◌, ◌/◌, ◌==◌, ◌&&◌, ◌||◌, if◌then◌else◌, ℤ, pos, unsigned_abs, int_lt, Bool, nat_le, nat_lt, List, [], ◌∷◌, length, ◌≡◌}
+use Rattle.std.specs.Prelude.{ℕ, zero, suc, ◌+◌, ◌-◌, ◌*◌, ◌==◌, ◌&&◌, ◌||◌, if◌then◌else◌, ℤ, pos, unsigned_abs, int_lt, Bool, nat_le, nat_lt, List, [], ◌∷◌, length, ◌≡◌}
 use Rattle.std.specs.List.{list_all}
 use Rattle.jiff_core.specs.Calendar.{days_in_month}
-use Rattle.d_num.specs.declared.pot.Pot.{Pot}
 use Rattle.d_certline.specs.declared.kind.Kind.{Kind}
 use Rattle.d_certline.specs.declared.kind.Kind.TheVariants.{Least, Gap, Nothing}
 use Rattle.d_certline.specs.declared.place.Place.{Place}

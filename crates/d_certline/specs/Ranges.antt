@@ -1,9 +1,8 @@
 -- The ranges of a certificate's numbers. All are our own rules.
-use Rattle.std.specs.Prelude.{ℕ, suc, ◌+◌, ◌*◌, ◌/◌, ◌-◌, ◌^◌, ◌==◌, ◌&&◌, ◌||◌, ℤ, pos, negsuc, unsigned_abs, Bool, true, false, nat_le, nat_lt, List, length}
+use Rattle.std.specs.Prelude.{ℕ, ◌+◌, ◌*◌, ◌/◌, ◌-◌, ◌^◌, ◌==◌, ◌&&◌, ◌||◌, ℤ, pos, negsuc, unsigned_abs, Bool, true, false, nat_le, nat_lt, List, length}
 use Rattle.std.specs.List.{list_all}
 use Rattle.d_num.specs.declared.pot.Pot.{Pot}
 use Rattle.d_num.specs.declared.pot.Pot.TheVariants.{To, NoWay}
-use Rattle.d_certline.specs.declared.place.Place.{Place}
 
 -- from one number to another, both among them
 unfoldable pub from_to : ℕ → ℕ → ℤ → Bool

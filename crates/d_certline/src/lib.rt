@@ -7,9 +7,13 @@
 mod event;
 mod fault;
 mod kind;
+mod law;
 mod place;
 
 pub use event::Event;
 pub use fault::CertFault;
 pub use kind::Kind;
+pub use law::{
+    faultless_are_certificates, one_certificate, one_event, one_fault, one_line, wholes_are_printed,
+};
 pub use place::{Place, Stage};

@@ -1,0 +1,13 @@
+pub mod DigitFacts
+pub mod LineFacts
+pub mod RangeFacts
+pub mod SoundFacts
+pub mod ShortFacts
+pub mod PartFacts
+pub mod OneLine
+pub mod FaultFacts
+pub mod EventFacts
+pub mod MadeFacts
+pub mod OneCertificate
+pub mod ShapeFacts
+pub mod OnlyFacts
