@@ -1,0 +1,10 @@
+mod LineFacts
+mod SaveFacts
+mod ChainFacts
+mod HeadFacts
+mod DayFacts
+mod FoundFacts
+mod CostFacts
+mod RowFacts
+mod TreeFacts
+mod WholeFacts

@@ -1,0 +1,23 @@
+use Rattle.std.specs.Int.{w128}
+use Rattle.std.proofs.lemmas.Int.{to_z-of_z}
+use Rattle.std.proofs.lemmas.Result.{err_from_is_err_and}
+use Rattle.std.proofs.Common.{rules, [], ◌∷◌, sym, refl, ap, ◌∙◌}
+use Rattle.d_num.specs.declared.pot.Pot.TheVariants.{To}
+use Rattle.d_certline.specs.Lines as line
+use Rattle.d_certline.specs.Certificates.{found_lines, day_lines}
+use Rattle.d_cert.specs.Written.{month_days}
+use Rattle.d_cert.proofs.ChainFacts.{lines_end, lines_cut}
+use Rattle.d_cert.proofs.found.save_plan.Goals as goal
+
+pub returns-in_err-save_days-clause-told : goal.returns-in_err-save_days-clause-told
+unfolding found_lines
+returns-in_err-save_days-clause-told g c = λ t.
+    let p = err_from_is_err_and c.from_residual.result c.from_residual.ensures.1 in
+    rw p.1 (lines_cut (day_lines 1 (month_days c.args.problem.now c.args.modes.now)) (line.bill c.args.bill ∷ []) _ _ (c.in_err-save_days.ensures.told t))
+
+pub returns-clause-told : goal.returns-clause-told
+unfolding found_lines line.word line.parts
+returns-clause-told g c = λ t.
+    lines_end (day_lines 1 (month_days c.args.problem.now c.args.modes.now)) (line.bill c.args.bill ∷ []) _ _ _ c.save_numbers.result
+    (c.in_ok-save_days.ensures.told t) (c.save_numbers.ensures.told (line.bill c.args.bill) refl
+    (ap (λ z. To z ∷ []) (sym (to_z-of_z w128 c.units_of.result (search rules) ∙ c.units_of.ensures.value))) t)

@@ -1,0 +1,4 @@
+pub mod Saved
+pub mod Written
+pub mod Heads
+pub mod Cuts
